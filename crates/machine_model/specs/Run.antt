@@ -1,0 +1,93 @@
+-- A run: the machine's instructions one after another, up to the first stop.
+use Rattle.std.specs.Prelude.{◌≡◌, ◌≢◌, ℕ, zero, suc, ◌+◌, ◌<◌, Bool, true, false, ◌&&◌, not, if◌then◌else◌, ◌==◌, nat_le, List, [], ◌∷◌, Option, Some, None, MatchBool}
+use Rattle.machine_model.specs.declared.stop.Stop.{Stop}
+use Rattle.machine_model.specs.declared.stop.Stop.TheVariants.{Trigger, Budget, Fault, Rest, Halt}
+use Rattle.machine_model.specs.Hypercall.{Called, call}
+use Rattle.machine_model.specs.Hypercall as hyper
+use Rattle.machine_model.specs.Instruction.{Next, IsNext, environment_call}
+use Rattle.machine_model.specs.Instruction as instruction
+use Rattle.machine_model.specs.Machine.{Machine, with_register}
+
+-- ---- what a run is given
+
+abbrev pub is_empty : List (List ℕ) → Bool
+is_empty [] = true
+is_empty (p ∷ ps) = false
+
+-- The machine with these packets queued and nothing written. One that rests goes on where a
+-- packet is there, with 1 in a0.
+abbrev pub give : Machine → List (List ℕ) → Machine
+give m packets =
+    let wakes = m.resting && not (is_empty packets) in
+    record m {
+      registers = if wakes then with_register 10 1 m.registers else m.registers;
+      resting = m.resting && is_empty packets;
+      queue = packets;
+      sent = [];
+      console = [];
+    }
+
+-- where a run stops besides: at an address, once an instruction was counted; after so many
+pub record Limits : Type 0 where
+  pub trigger : Option ℕ
+  pub budget : ℕ
+
+-- why it stopped, how many instructions were counted, and the machine then
+pub record Ended : Type 0 where
+  pub stop : Stop
+  pub number : ℕ
+  pub machine : Machine
+
+-- ---- one turn
+
+-- An instruction goes on, or the run stops at it. Then it is counted or it isn't.
+pub data Turn : Type 0 where
+  Goes : Machine → Turn
+  Stops : Stop → (counted : ℕ) → Machine → Turn
+
+abbrev pub turn_called : Machine → Called → Turn
+turn_called m (hyper.Done after) = Goes after
+turn_called m (hyper.Rests after) = Stops Rest 1 after
+turn_called m (hyper.Halts code after) = Stops (Halt code) 1 after
+turn_called m (hyper.Unknown number) = Stops (Fault environment_call m.pc number) 0 m
+
+abbrev pub turn_of : Machine → ℕ → Next → Turn
+turn_of m clock (instruction.Retired after) = Goes after
+turn_of m clock (instruction.Trap cause tval) = Stops (Fault cause m.pc tval) 0 m
+turn_of m clock instruction.Call = turn_called m (call m clock)
+
+pub record IsTurn (m : Machine) (clock : ℕ) (turn : Turn) : Type 0 where
+  pub next : Next
+  pub is_next : IsNext m next
+  pub turn_is : turn ≡ turn_of m clock next
+
+-- ---- whole runs
+
+-- n instructions lead from the one machine to the other, and each of them goes on
+abbrev pub After : ℕ → ℕ → Machine → Machine → Type 0
+After clock zero m after = m ≡ after
+After clock (suc n) m after = (mid : Machine) × After clock n m mid × IsTurn mid clock (Goes after)
+
+-- the run stops at the trigger, where so many instructions were counted
+abbrev pub at_trigger : Option ℕ → ℕ → Machine → Bool
+at_trigger None number m = false
+at_trigger (Some a) number m = nat_le 1 number && m.pc == a
+
+-- A stop is met where so many instructions were counted. They are looked at in this order: the
+-- trigger, the budget, and what the next instruction does.
+pub data Stopped (clock : ℕ) (limits : Limits) (number : ℕ) (m : Machine) : Ended → Type 0 where
+  By_trigger : at_trigger limits.trigger number m ≡ true → Stopped clock limits number m (record { stop = Trigger; number = number; machine = m })
+  By_budget : at_trigger limits.trigger number m ≡ false → number ≡ limits.budget → Stopped clock limits number m (record { stop = Budget; number = number; machine = m })
+  By_turn : {stop : Stop} {counted : ℕ} {after : Machine} → at_trigger limits.trigger number m ≡ false → number ≢ limits.budget → IsTurn m clock (Stops stop counted after) → Stopped clock limits number m (record { stop = stop; number = number + counted; machine = after })
+
+-- The least number of counted instructions at which a stop is met. A machine that rests with no
+-- packet queued is at rest already.
+pub record Runs (clock : ℕ) (limits : Limits) (m : Machine) (ended : Ended) : Type 0 where
+  pub number : ℕ
+  pub at : Machine
+  pub reached : After clock number m at
+  pub stopped : Stopped clock limits number at ended
+  pub least : (earlier : ℕ) → earlier < number → (mid : Machine) (other : Ended) → After clock earlier m mid → Stopped clock limits earlier mid other → ⊥
+
+abbrev pub IsRun : ℕ → Limits → Machine → Ended → Type 0
+IsRun clock limits m ended = MatchBool m.resting (ended ≡ record { stop = Rest; number = 0; machine = m }) (Runs clock limits m ended)
