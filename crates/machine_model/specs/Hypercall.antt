@@ -58,9 +58,12 @@ abbrev pub can_send : Machine → ℕ → ℕ → Bool
 can_send m at size =
     nat_le size packet_limit && nat_lt (length m.sent) sent_limit && nat_le (sum_by length m.sent + size) sent_bytes_limit && permits (λ r. r.readable) m.regions at size
 
+-- the machine that wrote the packet
+abbrev pub delivered : Machine → List ℕ → Machine
+delivered m packet = answered ok (record m { sent = m.sent ++ packet ∷ [] })
+
 abbrev pub sends : Machine → ℕ → ℕ → Called
-sends m at size =
-    if can_send m at size then Done (answered ok (record m { sent = m.sent ++ bytes_at m.memory at size ∷ [] })) else Done (answered invalid m)
+sends m at size = if can_send m at size then Done (delivered m (bytes_at m.memory at size)) else Done (answered invalid m)
 
 -- the machine that read the packet into memory
 abbrev pub received : Machine → ℕ → List ℕ → List (List ℕ) → Machine

@@ -13,7 +13,7 @@ hexadecimal n = radix_digits 16 false n
 abbrev pub end_text : Stop → List ℕ
 end_text Rest = codes "ok"
 end_text (Halt code) = codes "halt:" ++ decimal code
-end_text (Fault cause pc tval) = codes "fault:" ++ decimal cause ++ codes ":" ++ hexadecimal pc ++ codes ":" ++ hexadecimal tval
+end_text (Fault cause pc tval) = codes "fault:" ++ (decimal cause ++ (codes ":" ++ (hexadecimal pc ++ (codes ":" ++ hexadecimal tval))))
 end_text Budget = codes "budget"
 end_text Trigger = codes "trigger"
 
@@ -30,4 +30,4 @@ packets_text (p ∷ ps) = join_with_byte 47 (map bytes_text (p ∷ ps))
 -- `END STEPS PACKETS CONSOLE`, as a line
 abbrev pub reply_line : Stop → ℕ → List (List ℕ) → List ℕ → List ℕ
 reply_line stop number packets console =
-    end_text stop ++ codes " " ++ decimal number ++ codes " " ++ packets_text packets ++ codes " " ++ bytes_text console ++ codes "\n"
+    end_text stop ++ (codes " " ++ (decimal number ++ (codes " " ++ (packets_text packets ++ (codes " " ++ (bytes_text console ++ codes "\n"))))))

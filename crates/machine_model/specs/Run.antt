@@ -91,3 +91,11 @@ pub record Runs (clock : ℕ) (limits : Limits) (m : Machine) (ended : Ended) : 
 
 abbrev pub IsRun : ℕ → Limits → Machine → Ended → Type 0
 IsRun clock limits m ended = MatchBool m.resting (ended ≡ record { stop = Rest; number = 0; machine = m }) (Runs clock limits m ended)
+
+-- What a run shows outside: why it stopped, how many instructions were counted, and the packets
+-- and the console bytes that it wrote.
+pub record Replies (clock : ℕ) (limits : Limits) (m : Machine) (stop : Stop) (number : ℕ) (packets : List (List ℕ)) (console : List ℕ) : Type 0 where
+  pub machine : Machine
+  pub run : IsRun clock limits m (record { stop = stop; number = number; machine = machine })
+  pub packets_are : machine.sent ≡ packets
+  pub console_is : machine.console ≡ console

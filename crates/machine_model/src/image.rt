@@ -57,7 +57,7 @@ pub struct Segment {
 /// Segments that contracts see as a list.
 #[derive(Debug, Drop)]
 pub struct Segments {
-    all: Vec<Segment>,
+    list: Vec<Segment>,
 }
 
 impl Model for Segments {
@@ -66,29 +66,29 @@ impl Model for Segments {
 
     ghost Value = { List Segment };
 
-    ghost view = { λ s. s.all.items };
+    ghost view = { λ s. s.list.items };
 }
 
 impl Segments {
     /// These segments.
-    pub fn from_vec(all: Vec<Segment>) -> Segments
-        ensures { result ≡ all.items }
+    pub fn from_vec(list: Vec<Segment>) -> Segments
+        ensures { result ≡ list.items }
     {
-        Segments { all }
+        Segments { list }
     }
 
     /// All of the segments.
     pub fn as_slice(&self) -> &[Segment]
         ensures { result.now ≡ self.now }
     {
-        &self.all
+        &self.list
     }
 
     /// The segments as the vector that they came in.
     pub fn into_vec(self) -> Vec<Segment>
         ensures { result.items ≡ self }
     {
-        self.all
+        self.list
     }
 }
 

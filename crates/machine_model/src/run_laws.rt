@@ -1,0 +1,33 @@
+//! Laws of runs: what the definitions determine.
+
+ghost use Rattle.std.specs.Prelude.{◌≡◌, ◌≢◌, ℕ, ◌+◌, false};
+ghost use Rattle.machine_model.specs.Machine.{Machine};
+ghost use Rattle.machine_model.specs.declared.stop.Stop.TheVariants.{Fault};
+ghost use Rattle.machine_model.specs.Run.{Limits, Ended, Goes, Stops, IsTurn, After, at_trigger, Stopped, IsRun};
+
+/// A run ends in one way: why it stops, after how many instructions, and the machine
+/// then are determined.
+pub fn one_end()
+    ensures { (clock : ℕ) (limits : Limits) (m : Machine) (a b : Ended) →
+        IsRun clock limits m a → IsRun clock limits m b → a ≡ b }
+{}
+
+/// n instructions and then k are n + k instructions, and the other way round.
+pub fn instructions_add()
+    ensures joined { (clock n k : ℕ) (a b c : Machine) → After clock n a b → After clock k b c → After clock (n + k) a c }
+    ensures parted { (clock n k : ℕ) (a c : Machine) → After clock (n + k) a c → (b : Machine) × After clock n a b × After clock k b c }
+{}
+
+/// An exception leaves the machine as it was, and its instruction isn't counted.
+pub fn faults_keep()
+    ensures { (m : Machine) (clock cause pc tval counted : ℕ) (after : Machine) →
+        IsTurn m clock (Stops (Fault cause pc tval) counted after) → (after ≡ m) × (counted ≡ 0) }
+{}
+
+/// Where a run goes on after so many instructions, it has met no stop there.
+pub fn goes_on()
+    ensures { (clock : ℕ) (limits : Limits) (number : ℕ) (start m after : Machine) →
+        After clock number start m → at_trigger limits.trigger number m ≡ false → number ≢ limits.budget →
+        IsTurn m clock (Goes after) →
+        (mid : Machine) (other : Ended) → After clock number start mid → Stopped clock limits number mid other → ⊥ }
+{}
