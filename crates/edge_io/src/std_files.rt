@@ -1,0 +1,64 @@
+//! Files of the system.
+
+ghost use Rattle.std.specs.Prelude.{◌≡◌, ℕ, ◌≤◌, List, None};
+ghost use Rattle.edge_io.specs.Faults.{Rose};
+
+use crate::faults::one_more;
+use crate::files::{FileFault, Files};
+use crate::source::{ReadFault, read_all};
+use crate::std_source::StdSource;
+use std::alloc::Global;
+use std::{fs, rt};
+
+/// The files that the runtime reaches. It doesn't tell their bytes.
+///
+/// In `main` this is `StdFiles::new(&rt)`.
+#[derive(Drop)]
+pub struct StdFiles<'a, R> {
+    runtime: &'a R,
+    faults: u64,
+}
+
+impl<'a, R: rt::Files> StdFiles<'a, R> {
+    /// The files of this runtime, with no faults yet.
+    pub fn new(runtime: &'a R) -> StdFiles<'a, R>
+        ensures file { (name : List ℕ) → ⟦<StdFiles<'a, R> as Files>⟧.file result name ≡ None }
+        ensures faults { ⟦<StdFiles<'a, R> as Files>⟧.faults result ≡ 0 }
+    {
+        StdFiles { runtime, faults: 0 }
+    }
+
+    /// How many calls failed. At its type's end the count stands still.
+    pub fn faults(&self) -> u64
+        ensures { ⟦<StdFiles<'a, R> as Files>⟧.faults self.now ≡ result }
+    {
+        self.faults
+    }
+
+    fn fail(&mut self) -> FileFault
+        ensures fault { result ≡ FileFault.Failed }
+        ensures rose { Rose self.old.faults self.new.faults }
+        ensures counted { self.old.faults ≤ self.new.faults }
+    {
+        self.faults = one_more(self.faults);
+        FileFault::Failed
+    }
+}
+
+impl<'a, R: rt::Files> Files for StdFiles<'a, R> {
+    ghost faults = { λ files. files.faults };
+
+    ghost file = { λ _ _. None };
+
+    fn read_file(&mut self, alloc: Global, name: &str, limit: u64) -> Result<Vec<u8>, FileFault> {
+        let Ok(file) = fs::open(self.runtime, name) else {
+            return Err(self.fail());
+        };
+        match read_all(alloc, &mut StdSource::new(file), limit as usize) {
+            Ok(bytes) => Ok(bytes),
+            Err(ReadFault::Failed) => Err(self.fail()),
+            Err(ReadFault::TooLong) => Err(FileFault::TooBig),
+            Err(ReadFault::Memory) => Err(FileFault::Memory),
+        }
+    }
+}

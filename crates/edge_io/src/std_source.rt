@@ -1,0 +1,51 @@
+//! A source over a reader of the standard library.
+
+ghost use Rattle.std.specs.Prelude.{◌≡◌, None};
+
+use crate::faults::one_more;
+use crate::source::{Failed, Source};
+use std::io::Read;
+
+/// A reader as a source. It doesn't tell its bytes. A read that is interrupted is a fault
+/// like any other.
+///
+/// Over the standard input this is `StdSource::new(rt.reader())`, over an open file
+/// `StdSource::new(fs::open(&rt, path)?)`.
+#[derive(Drop)]
+pub struct StdSource<R> {
+    reader: R,
+    faults: u64,
+}
+
+impl<R: Read> StdSource<R> {
+    /// A source over this reader, with no faults yet.
+    pub fn new(reader: R) -> StdSource<R>
+        ensures remaining { ⟦<StdSource<R> as Source>⟧.remaining result ≡ None }
+        ensures faults { ⟦<StdSource<R> as Source>⟧.faults result ≡ 0 }
+    {
+        StdSource { reader, faults: 0 }
+    }
+
+    /// How many calls failed. At its type's end the count stands still.
+    pub fn faults(&self) -> u64
+        ensures { ⟦<StdSource<R> as Source>⟧.faults self.now ≡ result }
+    {
+        self.faults
+    }
+}
+
+impl<R: Read> Source for StdSource<R> {
+    ghost faults = { λ source. source.faults };
+
+    ghost remaining = { λ _. None };
+
+    fn read(&mut self, buf: &mut [u8]) -> Result<usize, Failed> {
+        match self.reader.read(buf) {
+            Ok(taken) => Ok(taken),
+            Err(_) => {
+                self.faults = one_more(self.faults);
+                Err(Failed)
+            }
+        }
+    }
+}
