@@ -1,0 +1,236 @@
+//! From words to instructions.
+
+ghost use Rattle.std.specs.Prelude.{◌≡◌, Some};
+ghost use Rattle.machine_model.proofs.Reading.{reading, i_imm, s_imm, b_offset, j_offset, rd_of, rs1_of, rs2_of, imm_of, imm_w_of, jalr_of, branch_of, load_of, store_of, op_imm_of, op_of, op_imm_w_of, op_w_of, fence_of, system_of};
+ghost use Rattle.machine_model.specs.InstructionWord.{Decodes, IsWordOf};
+ghost use Rattle.machine_model.specs.declared.instruction.Inst.{Inst};
+
+use crate::field::{bits, signed};
+use crate::{ImmOp, ImmWOp, Inst, operation};
+
+/// The instruction that a word is, with its fields; none where the word fits no row of the
+/// table. Each word that is some instruction's gives that instruction, which is the only one.
+pub fn decode(w: u32) -> Option<Inst>
+    ensures decodes { Decodes w result }
+    ensures only { (v : Inst) → IsWordOf w v → result ≡ Some v }
+{
+    by_opcode(w)
+}
+
+fn by_opcode(w: u32) -> Option<Inst>
+    ensures { result ≡ reading w }
+{
+    match bits(w, 6, 0) {
+        0x03 => load(w),
+        0x0f => fence(w),
+        0x13 => op_imm(w),
+        0x17 => Some(Inst::Auipc {
+            rd: rd(w),
+            n: bits(w, 31, 12),
+        }),
+        0x1b => op_imm_w(w),
+        0x23 => store(w),
+        0x33 => op(w),
+        0x37 => Some(Inst::Lui {
+            rd: rd(w),
+            n: bits(w, 31, 12),
+        }),
+        0x3b => op_w(w),
+        0x63 => branch(w),
+        0x67 => jalr(w),
+        0x6f => Some(Inst::Jal {
+            rd: rd(w),
+            offset: j_offset(w),
+        }),
+        0x73 => system(w),
+        _ => None,
+    }
+}
+
+// ---- the formats' fields
+
+fn rd(w: u32) -> u8
+    ensures { result ≡ rd_of w }
+{
+    bits(w, 11, 7) as u8
+}
+
+fn rs1(w: u32) -> u8
+    ensures { result ≡ rs1_of w }
+{
+    bits(w, 19, 15) as u8
+}
+
+fn rs2(w: u32) -> u8
+    ensures { result ≡ rs2_of w }
+{
+    bits(w, 24, 20) as u8
+}
+
+fn i_imm(w: u32) -> i32
+    ensures { result ≡ i_imm w }
+{
+    signed(bits(w, 31, 20), 12)
+}
+
+fn s_imm(w: u32) -> i32
+    ensures { result ≡ s_imm w }
+{
+    signed(bits(w, 11, 7) + (bits(w, 31, 25) << 5), 12)
+}
+
+fn b_offset(w: u32) -> i32
+    ensures { result ≡ b_offset w }
+{
+    let low = (bits(w, 11, 8) << 1) + (bits(w, 30, 25) << 5);
+    let high = (bits(w, 7, 7) << 11) + (bits(w, 31, 31) << 12);
+    signed(low + high, 13)
+}
+
+fn j_offset(w: u32) -> i32
+    ensures { result ≡ j_offset w }
+{
+    let low = (bits(w, 30, 21) << 1) + (bits(w, 20, 20) << 11);
+    let high = (bits(w, 19, 12) << 12) + (bits(w, 31, 31) << 20);
+    signed(low + high, 21)
+}
+
+// ---- one function an opcode
+
+fn jalr(w: u32) -> Option<Inst>
+    ensures { result ≡ jalr_of w }
+{
+    match bits(w, 14, 12) {
+        0 => Some(Inst::Jalr {
+            rd: rd(w),
+            rs1: rs1(w),
+            imm: i_imm(w),
+        }),
+        _ => None,
+    }
+}
+
+fn branch(w: u32) -> Option<Inst>
+    ensures { result ≡ branch_of w }
+{
+    let op = operation::branch_op(bits(w, 14, 12))?;
+    Some(Inst::Branch {
+        op,
+        rs1: rs1(w),
+        rs2: rs2(w),
+        offset: b_offset(w),
+    })
+}
+
+fn load(w: u32) -> Option<Inst>
+    ensures { result ≡ load_of w }
+{
+    let op = operation::load_op(bits(w, 14, 12))?;
+    Some(Inst::Load {
+        op,
+        rd: rd(w),
+        rs1: rs1(w),
+        imm: i_imm(w),
+    })
+}
+
+fn store(w: u32) -> Option<Inst>
+    ensures { result ≡ store_of w }
+{
+    let op = operation::store_op(bits(w, 14, 12))?;
+    Some(Inst::Store {
+        op,
+        rs1: rs1(w),
+        rs2: rs2(w),
+        imm: s_imm(w),
+    })
+}
+
+fn op_imm(w: u32) -> Option<Inst>
+    ensures { result ≡ op_imm_of w }
+{
+    let op = operation::imm_op(bits(w, 14, 12), bits(w, 31, 26))?;
+    Some(Inst::OpImm {
+        op,
+        rd: rd(w),
+        rs1: rs1(w),
+        imm: imm_of(op, w),
+    })
+}
+
+fn imm_of(op: ImmOp, w: u32) -> i32
+    ensures { result ≡ imm_of op w }
+{
+    match op {
+        ImmOp::Slli | ImmOp::Srli | ImmOp::Srai => bits(w, 25, 20) as i32,
+        _ => i_imm(w),
+    }
+}
+
+fn op(w: u32) -> Option<Inst>
+    ensures { result ≡ op_of w }
+{
+    let op = operation::reg_op(bits(w, 14, 12), bits(w, 31, 25))?;
+    Some(Inst::Op {
+        op,
+        rd: rd(w),
+        rs1: rs1(w),
+        rs2: rs2(w),
+    })
+}
+
+fn op_imm_w(w: u32) -> Option<Inst>
+    ensures { result ≡ op_imm_w_of w }
+{
+    let op = operation::imm_w_op(bits(w, 14, 12), bits(w, 31, 25))?;
+    Some(Inst::OpImmW {
+        op,
+        rd: rd(w),
+        rs1: rs1(w),
+        imm: imm_w_of(op, w),
+    })
+}
+
+fn imm_w_of(op: ImmWOp, w: u32) -> i32
+    ensures { result ≡ imm_w_of op w }
+{
+    match op {
+        ImmWOp::Addiw => i_imm(w),
+        _ => bits(w, 24, 20) as i32,
+    }
+}
+
+fn op_w(w: u32) -> Option<Inst>
+    ensures { result ≡ op_w_of w }
+{
+    let op = operation::reg_w_op(bits(w, 14, 12), bits(w, 31, 25))?;
+    Some(Inst::OpW {
+        op,
+        rd: rd(w),
+        rs1: rs1(w),
+        rs2: rs2(w),
+    })
+}
+
+fn fence(w: u32) -> Option<Inst>
+    ensures { result ≡ fence_of w }
+{
+    match bits(w, 14, 12) {
+        0 => Some(Inst::Fence {
+            rd: rd(w),
+            rs1: rs1(w),
+            n: bits(w, 31, 20),
+        }),
+        _ => None,
+    }
+}
+
+fn system(w: u32) -> Option<Inst>
+    ensures { result ≡ system_of w }
+{
+    match w {
+        0x0000_0073 => Some(Inst::Ecall),
+        0x0010_0073 => Some(Inst::Ebreak),
+        _ => None,
+    }
+}
