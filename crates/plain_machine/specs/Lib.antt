@@ -1,0 +1,4 @@
+pub mod Permission
+pub mod PlainMachine
+pub mod Turn
+pub mod Written

@@ -1,0 +1,93 @@
+//! A whole run.
+
+ghost use Rattle.std.specs.Prelude.{◌≡◌, ℕ, IfOk};
+ghost use Rattle.machine_model.specs.Loaded.{loaded};
+ghost use Rattle.machine_model.specs.Run.{give, at_trigger, Runs, Replies};
+
+use crate::machine::{PlainMachine, Turn};
+use machine_model::{Bytes, Image, Stop, goes_on};
+use std::alloc::{AllocError, Global};
+
+/// What a run shows outside.
+#[derive(Debug, Drop)]
+pub struct Reply {
+    /// Why the run stopped.
+    pub stop: Stop,
+    /// How many instructions were counted.
+    pub number: u64,
+    /// The packets that the program wrote, the oldest first.
+    pub packets: Vec<Bytes>,
+    /// The console bytes that it wrote.
+    pub console: Vec<u8>,
+}
+
+impl PlainMachine<'_> {
+    ghost use Rattle.plain_machine.specs.PlainMachine.{machine_of};
+
+    /// Whether a run stops at its trigger.
+    fn is_at(&self, trigger: Option<u64>, number: u64) -> bool
+        ensures { result ≡ at_trigger trigger number (machine_of self.now) }
+    {
+        match trigger {
+            Some(a) => number >= 1 && self.pc == a,
+            None => false,
+        }
+    }
+
+    /// Runs up to the first stop, and answers it with the number of instructions.
+    fn run(
+        &mut self,
+        alloc: Global,
+        trigger: Option<u64>,
+        budget: u64,
+    ) -> Result<(Stop, u64), AllocError>
+        ensures { IfOk result (λ end. (clock : ℕ) → Runs clock (record { trigger = trigger; budget = budget })
+            (machine_of self.old) (record { stop = end.0; number = end.1; machine = machine_of self.new })) }
+    {
+        let mut number = 0;
+        'turns: loop {
+            goes_on();
+            if self.is_at(trigger, number) {
+                return Ok((Stop::Trigger, number));
+            }
+            if number == budget {
+                return Ok((Stop::Budget, number));
+            }
+            match self.turn(alloc)? {
+                Turn::Goes => number += 1,
+                Turn::Refuses(stop) => return Ok((stop, number)),
+                Turn::Ends(stop) => return Ok((stop, number + 1)),
+            }
+        }
+    }
+}
+
+/// Runs an image that is given packets, up to its first stop: at the address of the
+/// trigger, after as many instructions as the budget says, or where the program stops.
+/// `stack` is the size of its stack in bytes. The program is shown no clock.
+pub fn run(
+    alloc: Global,
+    image: &Image,
+    stack: u64,
+    packets: &[Bytes],
+    trigger: Option<u64>,
+    budget: u64,
+) -> Result<Reply, AllocError>
+    ensures { IfOk result (λ reply. (clock : ℕ) → Replies clock (record { trigger = trigger; budget = budget })
+        (give (loaded image.now stack) packets.now) reply.stop reply.number reply.packets.items reply.console.items) }
+{
+    let mut machine = PlainMachine::load(alloc, image, stack);
+    machine.give(alloc, packets);
+    let (stop, number) = machine.run(alloc, trigger, budget)?;
+    let PlainMachine {
+        sent: packets,
+        console,
+        ..
+    } = machine;
+    Ok(Reply {
+        stop,
+        number,
+        packets,
+        console,
+    })
+}
