@@ -1,0 +1,55 @@
+//! The program: the real files and streams, and the words that it was called with, for
+//! the top call.
+#![tactic(auto)]
+
+use edge_io::{Sink, StdFiles, StdSink, StdSource};
+use seuss_top::{Plain, Refusal, report, run_plain};
+use std::alloc::Global;
+use std::env::Env;
+use std::process::ExitCode;
+use std::{env, io};
+
+/// The words after the program's name. Words that aren't UTF-8 are in no form, as no
+/// words are. Without the memory for them there are none to judge.
+fn words(rt: &(impl Env + Alloc<A = Global>)) -> Result<Vec<String>, Refusal> {
+    let mut words = Vec::new(rt.alloc());
+    match env::args(rt) {
+        Ok(args) => {
+            for word in args.skip(1) {
+                if words.push(word).is_err() {
+                    return Err(Refusal::Memory);
+                }
+            }
+            Ok(words)
+        }
+        Err(error) if error.kind() == io::ErrorKind::OutOfMemory => Err(Refusal::Memory),
+        Err(_) => Ok(words),
+    }
+}
+
+fn refuse<E: Sink>(errs: &mut E, refusal: &Refusal) -> u8 {
+    report(errs, refusal);
+    refusal.status()
+}
+
+fn main(rt: HostRuntime) -> ExitCode {
+    let mut errs = StdSink::new(rt.stderr());
+    let status = match words(&rt) {
+        Ok(words) => {
+            let mut files = StdFiles::new(&rt);
+            let mut source = StdSource::new(rt.reader());
+            let mut sink = StdSink::new(io::writer(&rt));
+            let Plain::Done(status) = run_plain(
+                rt.alloc(),
+                &words,
+                &mut files,
+                &mut source,
+                &mut sink,
+                &mut errs,
+            );
+            status
+        }
+        Err(refusal) => refuse(&mut errs, &refusal),
+    };
+    ExitCode::from(status)
+}
