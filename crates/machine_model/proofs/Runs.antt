@@ -1,5 +1,5 @@
 -- A machine has one run.
-use Rattle.std.proofs.Common.{◌≡◌, ◌≢◌, ℕ, zero, suc, ◌+◌, ◌<◌, Bool, true, false, Option, Some, None, refl, sym, ap, ◌∙◌, subst, arith, MatchBool, add-zero, add-suc}
+use Rattle.std.proofs.Common.{◌≡◌, ◌≢◌, ℕ, zero, suc, ◌+◌, ◌<◌, Bool, true, false, ◌&&◌, Option, Some, None, refl, sym, ap, ◌∙◌, subst, arith, MatchBool, add-zero, add-suc}
 use Rattle.machine_model.specs.declared.instruction.Inst.{Inst}
 use Rattle.machine_model.specs.declared.stop.Stop.{Stop}
 use Rattle.machine_model.specs.declared.stop.Stop.TheVariants.{Fault, Rest}
@@ -10,7 +10,7 @@ use Rattle.machine_model.proofs.Completeness.{one_reading}
 use Rattle.machine_model.specs.Machine.{Machine}
 use Rattle.machine_model.specs.Hypercall.{Called, call}
 use Rattle.machine_model.specs.Hypercall as hyper
-use Rattle.machine_model.specs.Run.{Limits, Ended, Turn, Goes, Stops, IsTurn, turn_of, turn_called, After, at_trigger, Stopped, By_trigger, By_budget, By_turn, Runs, IsRun}
+use Rattle.machine_model.specs.Run.{Limits, Ended, Turn, Goes, Stops, IsTurn, turn_of, turn_called, After, at_trigger, Stopped, By_trigger, By_budget, By_turn, Runs, IsRun, is_empty}
 
 -- a word decodes in one way
 pub one_decoding : (w : ℕ) (a b : Option Inst) → Decodes w a → Decodes w b → a ≡ b
@@ -106,7 +106,7 @@ rest_or_run clock limits m a b true p q = p ∙ sym q
 rest_or_run clock limits m a b false p q = one_run clock limits m a b p q
 
 pub one_end : (clock : ℕ) (limits : Limits) (m : Machine) (a b : Ended) → IsRun clock limits m a → IsRun clock limits m b → a ≡ b
-one_end clock limits m a b p q = rest_or_run clock limits m a b m.resting p q
+one_end clock limits m a b p q = rest_or_run clock limits m a b (m.resting && is_empty m.queue) p q
 
 -- where a run goes on after so many instructions, it has met no stop there
 pub goes_on : (clock : ℕ) (limits : Limits) (number : ℕ) (start m after : Machine) → After clock number start m → at_trigger limits.trigger number m ≡ false → number ≢ limits.budget → IsTurn m clock (Goes after) → (mid : Machine) (other : Ended) → After clock number start mid → Stopped clock limits number mid other → ⊥

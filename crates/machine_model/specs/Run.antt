@@ -90,7 +90,7 @@ pub record Runs (clock : ℕ) (limits : Limits) (m : Machine) (ended : Ended) : 
   pub least : (earlier : ℕ) → earlier < number → (mid : Machine) (other : Ended) → After clock earlier m mid → Stopped clock limits earlier mid other → ⊥
 
 abbrev pub IsRun : ℕ → Limits → Machine → Ended → Type 0
-IsRun clock limits m ended = MatchBool m.resting (ended ≡ record { stop = Rest; number = 0; machine = m }) (Runs clock limits m ended)
+IsRun clock limits m ended = MatchBool (m.resting && is_empty m.queue) (ended ≡ record { stop = Rest; number = 0; machine = m }) (Runs clock limits m ended)
 
 -- What a run shows outside: why it stopped, how many instructions were counted, and the packets
 -- and the console bytes that it wrote.

@@ -11,6 +11,6 @@ mod word_laws;
 
 pub use image::{Bytes, Image, Segment, Segments};
 pub use instruction::{BranchOp, ImmOp, ImmWOp, Inst, LoadOp, RegOp, RegWOp, StoreOp};
-pub use run_laws::{faults_keep, goes_on, instructions_add, one_end};
+pub use run_laws::{faults_keep, instructions_add, one_end};
 pub use stop::Stop;
-pub use word_laws::one_instruction;
+pub use word_laws::{one_instruction, one_word};

@@ -1,9 +1,9 @@
 //! Laws of runs: what the definitions determine.
 
-ghost use Rattle.std.specs.Prelude.{◌≡◌, ◌≢◌, ℕ, ◌+◌, false};
+ghost use Rattle.std.specs.Prelude.{◌≡◌, ℕ, ◌+◌};
 ghost use Rattle.machine_model.specs.Machine.{Machine};
 ghost use Rattle.machine_model.specs.declared.stop.Stop.TheVariants.{Fault};
-ghost use Rattle.machine_model.specs.Run.{Limits, Ended, Goes, Stops, IsTurn, After, at_trigger, Stopped, IsRun};
+ghost use Rattle.machine_model.specs.Run.{Limits, Ended, Stops, IsTurn, After, IsRun};
 
 /// A run ends in one way: why it stops, after how many instructions, and the machine
 /// then are determined.
@@ -22,12 +22,4 @@ pub fn instructions_add()
 pub fn faults_keep()
     ensures { (m : Machine) (clock cause pc tval counted : ℕ) (after : Machine) →
         IsTurn m clock (Stops (Fault cause pc tval) counted after) → (after ≡ m) × (counted ≡ 0) }
-{}
-
-/// Where a run goes on after so many instructions, it has met no stop there.
-pub fn goes_on()
-    ensures { (clock : ℕ) (limits : Limits) (number : ℕ) (start m after : Machine) →
-        After clock number start m → at_trigger limits.trigger number m ≡ false → number ≢ limits.budget →
-        IsTurn m clock (Goes after) →
-        (mid : Machine) (other : Ended) → After clock number start mid → Stopped clock limits number mid other → ⊥ }
 {}

@@ -15,11 +15,11 @@ use std::collections::BTreeMap;
 const ENVIRONMENT_CALL: u64 = 8;
 
 // The registers of a call's number, arguments and results.
-const NUMBER: usize = 17;
+const A7: u8 = 17;
 
-const FIRST: u8 = 10;
+const A0: u8 = 10;
 
-const SECOND: u8 = 11;
+const A1: u8 = 11;
 
 // The calls by their numbers.
 const NET_WRITE: u64 = 6;
@@ -79,9 +79,9 @@ impl PlainMachine<'_> {
         ensures { IfOk result (λ turn. (clock : ℕ) →
             turn_to turn (machine_of self.new) ≡ turn_called (machine_of self.old) (call (machine_of self.old) clock)) }
     {
-        let first = self.registers[FIRST as usize];
-        let second = self.registers[SECOND as usize];
-        match self.registers[NUMBER] {
+        let first = self.registers[A0 as usize];
+        let second = self.registers[A1 as usize];
+        match self.registers[A7 as usize] {
             NET_WRITE => {
                 self.send(alloc, first, second)?;
                 Ok(Turn::Goes)
@@ -106,7 +106,7 @@ impl PlainMachine<'_> {
     fn answer(&mut self, result_code: u64)
         ensures { machine_of self.new ≡ answered result_code (machine_of self.old) }
     {
-        self.write_register(FIRST, result_code);
+        self.write_register(A0, result_code);
         self.pc = self.pc.wrapping_add(4);
     }
 
@@ -178,7 +178,7 @@ impl PlainMachine<'_> {
     {
         write_bytes(&mut self.written, at, packet)?;
         self.answer(OK);
-        self.write_register(SECOND, packet.len() as u64);
+        self.write_register(A1, packet.len() as u64);
         Ok(())
     }
 }

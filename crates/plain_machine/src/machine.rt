@@ -1,10 +1,10 @@
 //! The plain machine's state: its memory, and its registers.
 
-ghost use Rattle.std.specs.Prelude.{◌≡◌, ◌+◌, ◌<◌, ◌^◌, OnOk, IfOk, MatchOption, true, false};
+ghost use Rattle.std.specs.Prelude.{◌≡◌, ◌<◌, MatchOption, true, false};
 
 use crate::memory::{Permission, STACK_END, loaded_byte, range_permits};
 use machine_model::{Bytes, Image, Segment, Stop};
-use std::alloc::{AllocError, Global};
+use std::alloc::Global;
 use std::collections::BTreeMap;
 
 const REGISTERS: usize = 32;
@@ -44,7 +44,7 @@ pub enum Turn {
 
 impl<'a> PlainMachine<'a> {
     ghost use Rattle.machine_model.specs.Loaded.{loaded};
-    ghost use Rattle.machine_model.specs.Machine.{permits, bytes_at, with_bytes, with_register};
+    ghost use Rattle.machine_model.specs.Machine.{permits, with_register};
     ghost use Rattle.machine_model.specs.Run.{give};
     ghost use Rattle.machine_model.specs.Instruction.{can_fetch, fetched};
     ghost use Rattle.plain_machine.specs.Permission.{grants};

@@ -77,7 +77,7 @@ fn stack_permits(permission: Permission, stack: u64, a: u64) -> bool
 }
 
 /// Whether a byte may be accessed so.
-pub fn byte_permits(permission: Permission, segments: &[Segment], stack: u64, a: u64) -> bool
+fn byte_permits(permission: Permission, segments: &[Segment], stack: u64, a: u64) -> bool
     ensures { result ≡ permits_byte (grants permission) (model.regions_of segments.now stack) a }
 {
     some_segment_permits(permission, segments, a) || stack_permits(permission, stack, a)

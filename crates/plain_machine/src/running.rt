@@ -5,7 +5,7 @@ ghost use Rattle.machine_model.specs.Loaded.{loaded};
 ghost use Rattle.machine_model.specs.Run.{give, at_trigger, Runs, Replies};
 
 use crate::machine::{PlainMachine, Turn};
-use machine_model::{Bytes, Image, Stop, goes_on};
+use machine_model::{Bytes, Image, Stop};
 use std::alloc::{AllocError, Global};
 
 /// What a run shows outside.
@@ -46,7 +46,6 @@ impl PlainMachine<'_> {
     {
         let mut number = 0;
         'turns: loop {
-            goes_on();
             if self.is_at(trigger, number) {
                 return Ok((Stop::Trigger, number));
             }

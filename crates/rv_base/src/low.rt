@@ -26,6 +26,7 @@ fn sign_extended(a: u32) -> u64
 }
 
 /// The sum of the low 32 bits, modulo 2^32.
+#[inline]
 pub fn addw(a: u64, b: u64) -> u64
     ensures { result ≡ word.addw a b }
 {
@@ -33,6 +34,7 @@ pub fn addw(a: u64, b: u64) -> u64
 }
 
 /// The difference of the low 32 bits, modulo 2^32.
+#[inline]
 pub fn subw(a: u64, b: u64) -> u64
     ensures { result ≡ word.subw a b }
 {
@@ -40,6 +42,7 @@ pub fn subw(a: u64, b: u64) -> u64
 }
 
 /// The low 32 bits of `a` shifted left by the low five bits of `b`, with zeros shifted in.
+#[inline]
 pub fn sllw(a: u64, b: u64) -> u64
     ensures { result ≡ word.sllw a b }
 {
@@ -47,6 +50,7 @@ pub fn sllw(a: u64, b: u64) -> u64
 }
 
 /// The low 32 bits of `a` shifted right by the low five bits of `b`, with zeros shifted in.
+#[inline]
 pub fn srlw(a: u64, b: u64) -> u64
     ensures { result ≡ word.srlw a b }
 {
@@ -55,6 +59,7 @@ pub fn srlw(a: u64, b: u64) -> u64
 
 /// The low 32 bits of `a` shifted right by the low five bits of `b`, with copies of
 /// their sign shifted in.
+#[inline]
 pub fn sraw(a: u64, b: u64) -> u64
     ensures { result ≡ word.sraw a b }
 {
@@ -62,6 +67,7 @@ pub fn sraw(a: u64, b: u64) -> u64
 }
 
 /// The product of the low 32 bits, modulo 2^32.
+#[inline]
 pub fn mulw(a: u64, b: u64) -> u64
     ensures { result ≡ word.mulw a b }
 {
@@ -70,6 +76,7 @@ pub fn mulw(a: u64, b: u64) -> u64
 
 /// The quotient of the low 32 bits, read as signed, cut towards 0. It is all ones
 /// where those of `b` are 0, and the least 32-bit number where that is divided by -1.
+#[inline]
 pub fn divw(a: u64, b: u64) -> u64
     ensures { result ≡ word.divw a b }
 {
@@ -82,6 +89,7 @@ pub fn divw(a: u64, b: u64) -> u64
 
 /// The quotient of the low 32 bits, read as unsigned. It is all ones where those of
 /// `b` are 0.
+#[inline]
 pub fn divuw(a: u64, b: u64) -> u64
     ensures { result ≡ word.divuw a b }
 {
@@ -96,6 +104,7 @@ pub fn divuw(a: u64, b: u64) -> u64
 /// The remainder of the low 32 bits, read as signed, with the sign of those of `a`. It
 /// is the low 32 bits of `a` where those of `b` are 0, and 0 where the least 32-bit
 /// number is divided by -1.
+#[inline]
 pub fn remw(a: u64, b: u64) -> u64
     ensures { result ≡ word.remw a b }
 {
@@ -108,6 +117,7 @@ pub fn remw(a: u64, b: u64) -> u64
 
 /// The remainder of the low 32 bits, read as unsigned. It is the low 32 bits of `a`
 /// where those of `b` are 0.
+#[inline]
 pub fn remuw(a: u64, b: u64) -> u64
     ensures { result ≡ word.remuw a b }
 {

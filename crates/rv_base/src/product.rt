@@ -4,6 +4,7 @@ ghost use Rattle.std.specs.Int.{int_shr};
 ghost use Rattle.machine_model.specs.Word as word;
 
 /// The low 64 bits of the product.
+#[inline]
 pub fn mul(a: u64, b: u64) -> u64
     ensures { result ≡ word.mul a b }
 {
@@ -18,6 +19,7 @@ fn high(product: i128) -> u64
 }
 
 /// The high 64 bits of the product of `a` and `b`, both read as signed.
+#[inline]
 pub fn mulh(a: u64, b: u64) -> u64
     ensures { result ≡ word.mulh a b }
 {
@@ -25,6 +27,7 @@ pub fn mulh(a: u64, b: u64) -> u64
 }
 
 /// The high 64 bits of the product of `a`, read as signed, and `b`, read as unsigned.
+#[inline]
 pub fn mulhsu(a: u64, b: u64) -> u64
     ensures { result ≡ word.mulhsu a b }
 {
@@ -32,6 +35,7 @@ pub fn mulhsu(a: u64, b: u64) -> u64
 }
 
 /// The high 64 bits of the product of `a` and `b`, both read as unsigned.
+#[inline]
 pub fn mulhu(a: u64, b: u64) -> u64
     ensures { result ≡ word.mulhu a b }
 {

@@ -5,6 +5,7 @@ ghost use Rattle.machine_model.specs.Word as word;
 
 /// The quotient of `a` and `b`, both read as signed, cut towards 0. It is all ones
 /// where `b` is 0, and the least number where that is divided by -1.
+#[inline]
 pub fn div(a: u64, b: u64) -> u64
     ensures { result ≡ word.div a b }
 {
@@ -18,6 +19,7 @@ pub fn div(a: u64, b: u64) -> u64
 }
 
 /// The quotient of `a` and `b`, both read as unsigned. It is all ones where `b` is 0.
+#[inline]
 pub fn divu(a: u64, b: u64) -> u64
     ensures { result ≡ word.divu a b }
 {
@@ -26,6 +28,7 @@ pub fn divu(a: u64, b: u64) -> u64
 
 /// The remainder of `a` by `b`, both read as signed, with the sign of `a`. It is `a`
 /// where `b` is 0, and 0 where the least number is divided by -1.
+#[inline]
 pub fn rem(a: u64, b: u64) -> u64
     ensures { result ≡ word.rem a b }
 {
@@ -39,6 +42,7 @@ pub fn rem(a: u64, b: u64) -> u64
 }
 
 /// The remainder of `a` by `b`, both read as unsigned. It is `a` where `b` is 0.
+#[inline]
 pub fn remu(a: u64, b: u64) -> u64
     ensures { result ≡ word.remu a b }
 {

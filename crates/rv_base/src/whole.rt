@@ -4,6 +4,7 @@ ghost use Rattle.std.specs.Prelude.{◌≡◌};
 ghost use Rattle.machine_model.specs.Word as word;
 
 /// The sum modulo 2^64.
+#[inline]
 pub fn add(a: u64, b: u64) -> u64
     ensures { result ≡ word.add a b }
 {
@@ -11,6 +12,7 @@ pub fn add(a: u64, b: u64) -> u64
 }
 
 /// The difference modulo 2^64.
+#[inline]
 pub fn sub(a: u64, b: u64) -> u64
     ensures { result ≡ word.sub a b }
 {
@@ -18,6 +20,7 @@ pub fn sub(a: u64, b: u64) -> u64
 }
 
 /// `a` shifted left by the low six bits of `b`, with zeros shifted in.
+#[inline]
 pub fn sll(a: u64, b: u64) -> u64
     ensures { result ≡ word.sll a b }
 {
@@ -25,6 +28,7 @@ pub fn sll(a: u64, b: u64) -> u64
 }
 
 /// `a` shifted right by the low six bits of `b`, with zeros shifted in.
+#[inline]
 pub fn srl(a: u64, b: u64) -> u64
     ensures { result ≡ word.srl a b }
 {
@@ -32,6 +36,7 @@ pub fn srl(a: u64, b: u64) -> u64
 }
 
 /// `a` shifted right by the low six bits of `b`, with copies of its sign shifted in.
+#[inline]
 pub fn sra(a: u64, b: u64) -> u64
     ensures { result ≡ word.sra a b }
 {
@@ -39,6 +44,7 @@ pub fn sra(a: u64, b: u64) -> u64
 }
 
 /// 1 where `a` is below `b`, both read as signed, and 0 elsewhere.
+#[inline]
 pub fn slt(a: u64, b: u64) -> u64
     ensures { result ≡ word.slt a b }
 {
@@ -46,6 +52,7 @@ pub fn slt(a: u64, b: u64) -> u64
 }
 
 /// 1 where `a` is below `b`, both read as unsigned, and 0 elsewhere.
+#[inline]
 pub fn sltu(a: u64, b: u64) -> u64
     ensures { result ≡ word.sltu a b }
 {
@@ -53,6 +60,7 @@ pub fn sltu(a: u64, b: u64) -> u64
 }
 
 /// Bitwise and.
+#[inline]
 pub fn and(a: u64, b: u64) -> u64
     ensures { result ≡ word.and a b }
 {
@@ -60,6 +68,7 @@ pub fn and(a: u64, b: u64) -> u64
 }
 
 /// Bitwise or.
+#[inline]
 pub fn or(a: u64, b: u64) -> u64
     ensures { result ≡ word.or a b }
 {
@@ -67,6 +76,7 @@ pub fn or(a: u64, b: u64) -> u64
 }
 
 /// Bitwise exclusive or.
+#[inline]
 pub fn xor(a: u64, b: u64) -> u64
     ensures { result ≡ word.xor a b }
 {

@@ -1,7 +1,7 @@
 //! The codes of operations, and the operations of codes.
 
 ghost use Rattle.std.specs.Prelude.{◌≡◌, ◌<◌, ◌^◌};
-ghost use Rattle.machine_model.proofs.Reading.{branch_op, load_op, store_op, shift_op, imm_op, base_op, multiply_op, other_op, reg_op, imm_w_op, base_w_op, multiply_w_op, other_w_op, reg_w_op};
+ghost use Rattle.machine_model.proofs.Reading.{branch_op, load_op, store_op, imm_op, base_op, multiply_op, other_op, reg_op, imm_w_op, base_w_op, multiply_w_op, other_w_op, reg_w_op};
 ghost use Rattle.machine_model.specs.InstructionWord.{branch_funct3, load_funct3, store_funct3, imm_funct3, reg_funct3, reg_funct7, imm_w_funct3, reg_w_funct3, reg_w_funct7};
 
 use crate::{BranchOp, ImmOp, ImmWOp, LoadOp, RegOp, RegWOp, StoreOp};

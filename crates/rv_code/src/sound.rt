@@ -1,7 +1,7 @@
 //! Whether the fields of an instruction are in their ranges.
 
-ghost use Rattle.std.specs.Prelude.{◌≡◌, ◌<◌, ◌^◌, ◌↔◌, IsTrue};
-ghost use Rattle.machine_model.specs.InstructionWord.{IsSound, IsRegister, FitsBits, IsOffset, IsAmount, IsImm, IsImmW};
+ghost use Rattle.std.specs.Prelude.{◌<◌, ◌↔◌, IsTrue};
+ghost use Rattle.machine_model.specs.InstructionWord.{IsSound, IsRegister, FitsBits, IsOffset, IsImm, IsImmW};
 
 use crate::field::is_within;
 use crate::{ImmOp, ImmWOp, Inst};

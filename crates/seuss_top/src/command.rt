@@ -1,6 +1,6 @@
 //! The program's commands.
 
-ghost use Rattle.std.specs.Prelude.{◌≡◌, ◌≢◌, ℕ, ◌<◌, ◌≤◌, ◌⊎◌, ◌↔◌, [], ◌∷◌, List, length, take, string_bytes, Some, IfOk, IfErr, OnOk, IfSome};
+ghost use Rattle.std.specs.Prelude.{◌≡◌, ◌≢◌, ℕ, ◌<◌, ◌≤◌, ◌⊎◌, ◌↔◌, [], ◌∷◌, List, length, take, Some, IfErr, OnOk, IfSome};
 ghost use Rattle.edge_io.specs.Content.{Adds};
 ghost use Rattle.edge_io.specs.Faults.{Rose};
 ghost use Rattle.elf64.specs.Form.{HasForm};
@@ -36,7 +36,7 @@ pub enum Plain {
 }
 
 /// Answers the command and writes the answer.
-fn serve<F: Files, S: Source, K: Sink>(
+fn write_answer<F: Files, S: Source, K: Sink>(
     alloc: Global,
     words: &[String],
     files: &mut F,
@@ -117,7 +117,7 @@ pub fn run_plain<F: Files, S: Source, K: Sink, E: Sink>(
         × Answers (texts words.now) (F.file files.old) (S.remaining source.old) line
         × (n < length line) × Adds (take n line) (K.contents sink.old) (K.contents sink.new) }
 {
-    match serve(alloc, words, files, source, sink) {
+    match write_answer(alloc, words, files, source, sink) {
         Ok(()) => Plain::Done(0),
         Err(refusal) => {
             report(errs, &refusal);

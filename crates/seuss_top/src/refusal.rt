@@ -2,9 +2,7 @@
 
 ghost use Rattle.std.specs.Prelude.{◌≡◌};
 
-use edge_io::{FileFault, ReadFault};
 use elf64::ElfFault;
-use std::alloc::AllocError;
 
 /// Why a command is refused. Each has a status and a line.
 #[derive(Clone, Copy, Debug, PartialEq, Eq)]

@@ -102,6 +102,53 @@ fn writes_the_line_of_a_run(rt: HostRuntime) -> Result<(), Fail> {
     Ok(())
 }
 
+/// The echo with these words in place of its own.
+fn with_words(words: &[u32; 12]) -> [u8; 168] {
+    let mut file = ECHO;
+    for i in 0..12 {
+        let bytes = words[i].to_le_bytes();
+        for k in 0..4 {
+            file[120 + 4 * i + k] = bytes[k];
+        }
+    }
+    file
+}
+
+/// An illegal word, a call that there isn't, and the packet sent twice before an illegal word.
+const OTHER_LINES: [([u32; 12], &str); 3] = [
+    ([0; 12], "fault:2:10000:0 0 none -\n"),
+    (
+        [0x0630_0893, 0x0000_0073, 0, 0, 0, 0, 0, 0, 0, 0, 0, 0],
+        "fault:8:10004:63 1 none -\n",
+    ),
+    (
+        [
+            0x0010_0413,
+            0x0104_1413,
+            0x1004_0513,
+            0x4000_0593,
+            0x0070_0893,
+            0x0000_0073,
+            0x1004_0513,
+            0x0060_0893,
+            0x0000_0073,
+            0x1004_0513,
+            0x0000_0073,
+            0,
+        ],
+        "fault:2:1002c:0 11 0102/0102 -\n",
+    ),
+];
+
+#[test]
+fn spells_faults_and_packets(rt: HostRuntime) -> Result<(), Fail> {
+    for (words, line) in OTHER_LINES {
+        let mut world = in_memory(rt.alloc(), &with_words(&words), &[1, 2], NONE)?;
+        check(&rt, &CALL, &mut world, (0, line, ""))?;
+    }
+    Ok(())
+}
+
 /// What is wrong with the image is told before the source is read.
 #[test]
 fn refuses_what_is_no_image(rt: HostRuntime) -> Result<(), Fail> {

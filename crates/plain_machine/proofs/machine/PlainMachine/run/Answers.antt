@@ -1,5 +1,6 @@
 use Rattle.std.proofs.Common.{◌≡◌, ℕ, ◌+◌, false, sym, ◌∙◌, arith, add-one, add-zero, below_more}
 use Rattle.machine_model.specs.Run.{Limits, Stopped, By_trigger, By_budget, By_turn, IsTurn, Goes, Stops, at_trigger}
+use Rattle.machine_model.proofs.Runs.{goes_on}
 use Rattle.plain_machine.specs.PlainMachine.{machine_of}
 use Rattle.plain_machine.proofs.machine.PlainMachine.run.Goals as goal
 
@@ -33,7 +34,7 @@ turns-preserved c =
     record {
       within = omega arith;
       reached = λ clock. rw add-one (here, c.turns.invariant.reached clock, goes clock);
-      least = λ clock. below_more _ _ (c.turns.invariant.least clock) (c.goes_on.ensures clock limits number start here after (c.turns.invariant.reached clock) trigger c.if-number-budget.false (goes clock));
+      least = λ clock. below_more _ _ (c.turns.invariant.least clock) (goes_on clock limits number start here after (c.turns.invariant.reached clock) trigger c.if-number-budget.false (goes clock));
     }
 
 pub returns-in-Refuses : goal.returns-in-Refuses
