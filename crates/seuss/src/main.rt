@@ -2,6 +2,10 @@
 //! the top call.
 #![tactic(auto)]
 
+ghost use Rattle.std.specs.Prelude.{◌≡◌, IfErr};
+ghost use Rattle.edge_io.specs.Faults.{Rose};
+ghost use Rattle.seuss_top.specs.Outcome.{Reports, line_of, status_of};
+
 use edge_io::{Sink, StdFiles, StdSink, StdSource};
 use seuss_top::{Plain, Refusal, report, run_plain};
 use std::alloc::Global;
@@ -11,7 +15,9 @@ use std::{env, io};
 
 /// The words after the program's name. Words that aren't UTF-8 are in no form, as no
 /// words are. Without the memory for them there are none to judge.
-fn words(rt: &(impl Env + Alloc<A = Global>)) -> Result<Vec<String>, Refusal> {
+fn words(rt: &(impl Env + Alloc<A = Global>)) -> Result<Vec<String>, Refusal>
+    ensures { IfErr result (λ refusal. refusal ≡ Refusal.Memory) }
+{
     let mut words = Vec::new(rt.alloc());
     match env::args(rt) {
         Ok(args) => {
@@ -27,7 +33,11 @@ fn words(rt: &(impl Env + Alloc<A = Global>)) -> Result<Vec<String>, Refusal> {
     }
 }
 
-fn refuse<E: Sink>(errs: &mut E, refusal: &Refusal) -> u8 {
+/// Reports a refusal, and answers its status.
+fn refuse<E: Sink>(errs: &mut E, refusal: &Refusal) -> u8
+    ensures status { result ≡ status_of refusal.now }
+    ensures reported { Reports (line_of refusal.now) (Rose (E.faults errs.old) (E.faults errs.new)) (E.contents errs.old) (E.contents errs.new) }
+{
     report(errs, refusal);
     refusal.status()
 }
