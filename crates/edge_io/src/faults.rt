@@ -1,14 +1,18 @@
-//! The count of faults, and which calls are to fail.
+//! The count of edge faults, and which calls are to fail.
 
-ghost use Rattle.std.specs.Prelude.{◌≡◌, ◌+◌, ◌-◌, ◌^◌, ◌<◌, ◌≤◌, ◌↔◌, min, IsErr, OnOk, OnErr, Contains};
-ghost use Rattle.edge_io.specs.Faults.{Rose};
+ghost use Rattle.std.specs.Prelude.{◌≡◌, ◌≤◌, ◌↔◌, IsErr, OnOk, OnErr};
+ghost use Rattle.edge_io.specs.Faults.{Rises, next_count};
+ghost use Rattle.edge_io.specs.Memory.{new_plan, NextFails};
+ghost use Rattle.edge_io.specs.Memory.{after_call, after_fault, after_failed_call};
 
 use crate::source::Failed;
+use std::marker::Model;
 
-/// One fault more. At its type's end the count stands still.
+/// The count that follows. At its type's end a count stands still.
 pub(crate) fn one_more(count: u64) -> u64
-    ensures rose { Rose count result }
-    ensures counted { count ≤ result }
+    ensures value { result ≡ next_count count }
+    ensures rises { Rises count result }
+    ensures never_falls { count ≤ result }
 {
     count.saturating_add(1)
 }
@@ -21,14 +25,21 @@ pub(crate) struct FaultPlan {
     /// How many calls were made. At its type's end it stands still.
     calls: u64,
     /// How many calls failed. At its type's end it stands still.
-    pub(crate) faults: u64,
+    faults: u64,
+}
+
+impl Model for FaultPlan {
+    ghost use Rattle.edge_io.specs.Memory.{Plan};
+
+    ghost Value = { Plan };
+
+    ghost view = { λ p. record { fails = p.fails.items; calls = p.calls; faults = p.faults } };
 }
 
 impl FaultPlan {
+    /// The plan of an object that was never called.
     pub(crate) fn new(fails: Vec<u64>) -> FaultPlan
-        ensures fails { result.fails ≡ fails }
-        ensures calls { result.calls ≡ 0 }
-        ensures faults { result.faults ≡ 0 }
+        ensures { result ≡ new_plan fails.items }
     {
         FaultPlan {
             fails,
@@ -37,28 +48,34 @@ impl FaultPlan {
         }
     }
 
+    /// How many calls failed.
+    pub(crate) fn faults(&self) -> u64
+        ensures { result ≡ self.now.faults }
+    {
+        self.faults
+    }
+
     /// Counts a call, and a fault too where this call is to fail.
     pub(crate) fn next_call(&mut self) -> Result<(), Failed>
-        ensures planned { IsErr result ↔ Contains self.old.fails.items self.new.calls }
-        ensures calls { self.new.calls ≡ min (self.old.calls + 1) (2 ^ 64 - 1) }
-        ensures fails { self.new.fails ≡ self.old.fails }
-        ensures ok { OnOk result (self.new.faults ≡ self.old.faults) }
-        ensures failed { OnErr result (Rose self.old.faults self.new.faults) }
-        ensures counted { self.old.faults ≤ self.new.faults }
+        ensures planned { IsErr result ↔ NextFails self.old }
+        ensures called { OnOk result (self.new ≡ after_call self.old) }
+        ensures failed { OnErr result (self.new ≡ after_failed_call self.old) }
+        ensures rises { OnErr result (Rises self.old.faults self.new.faults) }
+        ensures never_falls { self.old.faults ≤ self.new.faults }
     {
-        self.calls = self.calls.saturating_add(1);
+        self.calls = one_more(self.calls);
         if self.fails.contains(&self.calls) {
-            return Err(self.add_fault());
+            self.faults = one_more(self.faults);
+            return Err(Failed);
         }
         Ok(())
     }
 
-    /// Counts a fault.
+    /// Counts a fault of a call that was not to fail.
     pub(crate) fn add_fault(&mut self) -> Failed
-        ensures rose { Rose self.old.faults self.new.faults }
-        ensures counted { self.old.faults ≤ self.new.faults }
-        ensures calls { self.new.calls ≡ self.old.calls }
-        ensures fails { self.new.fails ≡ self.old.fails }
+        ensures counted { self.new ≡ after_fault self.old }
+        ensures rises { Rises self.old.faults self.new.faults }
+        ensures never_falls { self.old.faults ≤ self.new.faults }
     {
         self.faults = one_more(self.faults);
         Failed

@@ -1,26 +1,32 @@
 //! Files by their names.
 
-ghost use Rattle.std.specs.Prelude.{◌≡◌, ℕ, ◌<◌, ◌≤◌, List, length, Option, IfSome, IfOk, IsErrOf, vec_len};
+ghost use Rattle.std.specs.Prelude.{◌≡◌, ◌≢◌, ℕ, ◌<◌, ◌≤◌, List, length, vec_len};
+ghost use Rattle.std.specs.Prelude.{Option, Some, None, IfSome, IsSomeAnd, IfOk, IsErr, IsErrOf};
 ghost use Rattle.edge_io.specs.declared.files.FileFault.TheVariants.{Failed, Memory};
-ghost use Rattle.edge_io.specs.Faults.{Rose};
+ghost use Rattle.edge_io.specs.Faults.{Rises};
 
 use crate::source::Failed;
 use std::alloc::{AllocError, Global};
+use thiserror::Error;
 
 /// Why a file couldn't be read.
-#[derive(Clone, Copy, Debug, PartialEq, Eq)]
+#[derive(Clone, Copy, Debug, PartialEq, Eq, Error)]
 pub enum FileFault {
     /// The file couldn't be opened or read, and the count of faults rose.
+    #[error("the file couldn't be opened or read")]
     Failed,
     /// The file has more bytes than the limit.
+    #[error("the file has more bytes than the limit")]
     TooBig,
     /// Memory ran out.
+    #[error("out of memory")]
     Memory,
 }
 
 impl From<Failed> for FileFault {
     ghost from_gives = { λ _ e. e ≡ Failed };
 
+    /// The failure of a call on the file.
     fn from(_: Failed) -> FileFault {
         FileFault::Failed
     }
@@ -29,6 +35,7 @@ impl From<Failed> for FileFault {
 impl From<AllocError> for FileFault {
     ghost from_gives = { λ _ e. e ≡ Memory };
 
+    /// The want of memory for the bytes.
     fn from(_: AllocError) -> FileFault {
         FileFault::Memory
     }
@@ -36,18 +43,27 @@ impl From<AllocError> for FileFault {
 
 /// Files that are read whole.
 pub trait Files {
-    /// How many calls failed. The count never falls.
+    /// How many calls failed.
     ghost faults: { Self → ℕ };
 
-    /// The bytes of the file of a name, where they are told.
-    ghost file: { Self → List ℕ → Option (List ℕ) };
+    /// What they hold, where they tell it: for each name the bytes of its file, or `None`
+    /// where there is no such file.
+    ghost contents: { Self → Option (List ℕ → Option (List ℕ)) };
 
     /// The bytes of a file that has at most `limit` of them. No file changes.
     fn read_file(&mut self, alloc: Global, name: &str, limit: u64) -> Result<Vec<u8>, FileFault>
         ensures within { IfOk result (λ bytes. vec_len bytes ≤ limit) }
-        ensures bytes { IfOk result (λ bytes. IfSome (file self.old name.now) (λ told. bytes.items ≡ told)) }
-        ensures too_big { IsErrOf result FileFault.TooBig → IfSome (file self.old name.now) (λ told. limit < length told) }
-        ensures failed { IsErrOf result FileFault.Failed → Rose (faults self.old) (faults self.new) }
-        ensures unchanged { file self.new ≡ file self.old }
-        ensures counted { faults self.old ≤ faults self.new };
+        ensures bytes { IfOk result (λ bytes. IfSome (contents self.old)
+            (λ file_of. file_of name.now ≡ Some bytes.items)) }
+        ensures too_big { IsErrOf result FileFault.TooBig → IfSome (contents self.old)
+            (λ file_of. IsSomeAnd (file_of name.now) (λ file. limit < length file)) }
+        ensures refused { IfSome (contents self.old) (λ file_of. IfSome (file_of name.now)
+            (λ file. limit < length file → IsErr result)) }
+        ensures missing { IfSome (contents self.old) (λ file_of.
+            file_of name.now ≡ None → result ≡ Err FileFault.Failed) }
+        ensures failed { IsErrOf result FileFault.Failed →
+            Rises (faults self.old) (faults self.new) }
+        ensures counted { result ≢ Err FileFault.Failed → faults self.new ≡ faults self.old }
+        ensures never_falls { faults self.old ≤ faults self.new }
+        ensures unchanged { contents self.new ≡ contents self.old };
 }

@@ -1,11 +1,16 @@
 //! A sink in memory.
 
-ghost use Rattle.std.specs.Prelude.{◌≡◌, ◌<◌, Some, []};
+ghost use Rattle.std.specs.Prelude.{◌≡◌, ◌<◌, ◌≤◌, ◌++◌, [], length, max, min, take};
+ghost use Rattle.std.specs.Prelude.{Some, IfOk, IsErr, OnErr, OnOk};
+ghost use Rattle.edge_io.specs.Content.{Adds, Keeps};
+ghost use Rattle.edge_io.specs.Faults.{Rises};
+ghost use Rattle.edge_io.specs.Memory.{new_plan, NextFails, after_call, after_failed_call};
 
 use crate::faults::FaultPlan;
 use crate::sink::Sink;
 use crate::source::Failed;
 use std::alloc::Global;
+use std::marker::Model;
 
 /// Memory to write to. It tells all that was written.
 #[derive(Drop)]
@@ -14,23 +19,40 @@ pub struct MemSink {
     /// The most bytes that a call takes.
     piece: usize,
     plan: FaultPlan,
-    ghost piece_some: { 0 < piece },
+}
+
+impl Model for MemSink {
+    ghost use Rattle.std.specs.Prelude.{◌<◌};
+    ghost use Rattle.edge_io.specs.Memory.{SinkState};
+
+    ghost Value = { SinkState };
+
+    ghost view = { λ s. record { written = s.written.items; piece = s.piece; plan = s.plan } };
+
+    ghost invariant = { λ s. 0 < s.piece };
 }
 
 impl MemSink {
     /// An empty sink, which takes all of the bytes of a call. `fails` are the calls that
     /// are to fail, counted from 1.
     pub fn new(alloc: Global, fails: Vec<u64>) -> MemSink
-        ensures contents { ⟦<MemSink as Sink>⟧.contents result ≡ Some [] }
-        ensures faults { ⟦<MemSink as Sink>⟧.faults result ≡ 0 }
+        ensures { result ≡ record {
+          written = [];
+          piece = usize.MAX;
+          plan = new_plan fails.items;
+        } }
     {
         MemSink::in_pieces(alloc, usize::MAX, fails)
     }
 
     /// An empty sink, which takes at most `piece` bytes a call; a `piece` of 0 counts as 1.
+    /// `fails` are the calls that are to fail, counted from 1.
     pub fn in_pieces(alloc: Global, piece: usize, fails: Vec<u64>) -> MemSink
-        ensures contents { ⟦<MemSink as Sink>⟧.contents result ≡ Some [] }
-        ensures faults { ⟦<MemSink as Sink>⟧.faults result ≡ 0 }
+        ensures { result ≡ record {
+          written = [];
+          piece = max piece 1;
+          plan = new_plan fails.items;
+        } }
     {
         MemSink {
             written: Vec::new(alloc),
@@ -41,26 +63,45 @@ impl MemSink {
 
     /// All bytes that were written.
     pub fn as_slice(&self) -> &[u8]
-        ensures { ⟦<MemSink as Sink>⟧.contents self.now ≡ Some result.now }
+        ensures { result.now ≡ self.now.written }
     {
         self.written.as_slice()
     }
 
     /// How many calls failed. At its type's end the count stands still.
     pub fn faults(&self) -> u64
-        ensures { ⟦<MemSink as Sink>⟧.faults self.now ≡ result }
+        ensures { result ≡ self.now.plan.faults }
     {
-        self.plan.faults
+        self.plan.faults()
     }
 }
 
 impl Sink for MemSink {
     ghost faults = { λ sink. sink.plan.faults };
 
-    ghost contents = { λ sink. Some sink.written.items };
+    ghost contents = { λ sink. Some sink.written };
 
-    /// Where there is no memory for the bytes, that is a fault too, and none is taken.
-    fn write(&mut self, bytes: &[u8]) -> Result<usize, Failed> {
+    /// The planned calls fail, and one more only where there is no memory for its bytes. A
+    /// call that fails changes nothing but the counts.
+    fn write(&mut self, bytes: &[u8]) -> Result<usize, Failed>
+        ensures within { IfOk result (λ n. n ≤ length bytes.now) }
+        ensures some { IfOk result (λ n. 0 < length bytes.now → 0 < n) }
+        ensures taken { IfOk result (λ n.
+            Adds (take n bytes.now) (Some self.old.written) (Some self.new.written)) }
+        ensures err { OnErr result (Keeps (Some self.old.written) (Some self.new.written)) }
+        ensures failed { OnErr result (Rises self.old.plan.faults self.new.plan.faults) }
+        ensures counted { OnOk result (self.new.plan.faults ≡ self.old.plan.faults) }
+        ensures never_falls { self.old.plan.faults ≤ self.new.plan.faults }
+        ensures planned { NextFails self.old.plan → IsErr result }
+        ensures count { IfOk result (λ n. n ≡ min (length bytes.now) self.old.piece) }
+        ensures after { IfOk result (λ n. self.new ≡ record self.old {
+          written = self.old.written ++ take n bytes.now;
+          plan = after_call self.old.plan;
+        }) }
+        ensures fault { OnErr result (self.new ≡ record self.old {
+          plan = after_failed_call self.old.plan;
+        }) }
+    {
         self.plan.next_call()?;
         let taken = bytes.len().min(self.piece);
         match self.written.extend_from_slice(&bytes[..taken]) {

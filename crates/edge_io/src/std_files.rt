@@ -1,7 +1,7 @@
 //! Files of the system.
 
-ghost use Rattle.std.specs.Prelude.{◌≡◌, ℕ, ◌≤◌, List, None};
-ghost use Rattle.edge_io.specs.Faults.{Rose};
+ghost use Rattle.std.specs.Prelude.{◌≡◌, ◌≤◌, None};
+ghost use Rattle.edge_io.specs.Faults.{Rises};
 
 use crate::faults::one_more;
 use crate::files::{FileFault, Files};
@@ -16,13 +16,14 @@ use std::{fs, rt};
 #[derive(Drop)]
 pub struct StdFiles<'a, R> {
     runtime: &'a R,
+    /// How many calls failed. At its type's end it stands still.
     faults: u64,
 }
 
 impl<'a, R: rt::Files> StdFiles<'a, R> {
     /// The files of this runtime, with no faults yet.
     pub fn new(runtime: &'a R) -> StdFiles<'a, R>
-        ensures file { (name : List ℕ) → ⟦<StdFiles<'a, R> as Files>⟧.file result name ≡ None }
+        ensures contents { ⟦<StdFiles<'a, R> as Files>⟧.contents result ≡ None }
         ensures faults { ⟦<StdFiles<'a, R> as Files>⟧.faults result ≡ 0 }
     {
         StdFiles { runtime, faults: 0 }
@@ -35,10 +36,11 @@ impl<'a, R: rt::Files> StdFiles<'a, R> {
         self.faults
     }
 
+    /// Counts an edge fault, and answers it.
     fn fail(&mut self) -> FileFault
         ensures fault { result ≡ FileFault.Failed }
-        ensures rose { Rose self.old.faults self.new.faults }
-        ensures counted { self.old.faults ≤ self.new.faults }
+        ensures rises { Rises self.old.faults self.new.faults }
+        ensures never_falls { self.old.faults ≤ self.new.faults }
     {
         self.faults = one_more(self.faults);
         FileFault::Failed
@@ -48,8 +50,9 @@ impl<'a, R: rt::Files> StdFiles<'a, R> {
 impl<'a, R: rt::Files> Files for StdFiles<'a, R> {
     ghost faults = { λ files. files.faults };
 
-    ghost file = { λ _ _. None };
+    ghost contents = { λ _. None };
 
+    /// Opens the file and reads it to its end. An error of either is an edge fault.
     fn read_file(&mut self, alloc: Global, name: &str, limit: u64) -> Result<Vec<u8>, FileFault> {
         let Ok(file) = fs::open(self.runtime, name) else {
             return Err(self.fail());

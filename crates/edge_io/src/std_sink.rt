@@ -1,28 +1,30 @@
 //! A sink over a writer of the standard library.
 
-ghost use Rattle.std.specs.Prelude.{◌≡◌, None};
+ghost use Rattle.std.specs.Prelude.{◌≡◌};
 
 use crate::faults::one_more;
 use crate::sink::Sink;
 use crate::source::Failed;
 use std::io::Write;
 
-/// A writer as a sink. It doesn't tell its bytes. A write that takes none of some bytes is
-/// a fault, and so is one that is interrupted. Nothing is flushed, so the writer should
-/// hold nothing back: files, sockets, standard output and standard error hold nothing.
+/// A writer as a sink. It tells what the writer tells of its bytes. A write that takes none
+/// of some bytes is an edge fault, and so is one that is interrupted. Nothing is flushed, so
+/// the writer should hold nothing back: files, sockets, standard output and standard error
+/// hold nothing.
 ///
 /// Over the standard output this is `StdSink::new(io::writer(&rt))`, over the standard
 /// error `StdSink::new(rt.stderr())`.
 #[derive(Drop)]
 pub struct StdSink<W> {
     writer: W,
+    /// How many calls failed. At its type's end it stands still.
     faults: u64,
 }
 
 impl<W: Write> StdSink<W> {
     /// A sink over this writer, with no faults yet.
     pub fn new(writer: W) -> StdSink<W>
-        ensures contents { ⟦<StdSink<W> as Sink>⟧.contents result ≡ None }
+        ensures contents { ⟦<StdSink<W> as Sink>⟧.contents result ≡ W.contents writer }
         ensures faults { ⟦<StdSink<W> as Sink>⟧.faults result ≡ 0 }
     {
         StdSink { writer, faults: 0 }
@@ -39,8 +41,9 @@ impl<W: Write> StdSink<W> {
 impl<W: Write> Sink for StdSink<W> {
     ghost faults = { λ sink. sink.faults };
 
-    ghost contents = { λ _. None };
+    ghost contents = { λ sink. W.contents sink.writer };
 
+    /// Writes to the writer. Its error is an edge fault, whichever it is.
     fn write(&mut self, bytes: &[u8]) -> Result<usize, Failed> {
         match self.writer.write(bytes) {
             Ok(taken) if taken > 0 || bytes.is_empty() => Ok(taken),

@@ -1,26 +1,27 @@
 //! A source over a reader of the standard library.
 
-ghost use Rattle.std.specs.Prelude.{◌≡◌, None};
+ghost use Rattle.std.specs.Prelude.{◌≡◌};
 
 use crate::faults::one_more;
 use crate::source::{Failed, Source};
 use std::io::Read;
 
-/// A reader as a source. It doesn't tell its bytes. A read that is interrupted is a fault
-/// like any other.
+/// A reader as a source. It tells what the reader tells of its bytes. A read that is
+/// interrupted is an edge fault like any other.
 ///
 /// Over the standard input this is `StdSource::new(rt.reader())`, over an open file
 /// `StdSource::new(fs::open(&rt, path)?)`.
 #[derive(Drop)]
 pub struct StdSource<R> {
     reader: R,
+    /// How many calls failed. At its type's end it stands still.
     faults: u64,
 }
 
 impl<R: Read> StdSource<R> {
     /// A source over this reader, with no faults yet.
     pub fn new(reader: R) -> StdSource<R>
-        ensures remaining { ⟦<StdSource<R> as Source>⟧.remaining result ≡ None }
+        ensures remaining { ⟦<StdSource<R> as Source>⟧.remaining result ≡ R.remaining reader }
         ensures faults { ⟦<StdSource<R> as Source>⟧.faults result ≡ 0 }
     {
         StdSource { reader, faults: 0 }
@@ -37,8 +38,9 @@ impl<R: Read> StdSource<R> {
 impl<R: Read> Source for StdSource<R> {
     ghost faults = { λ source. source.faults };
 
-    ghost remaining = { λ _. None };
+    ghost remaining = { λ source. R.remaining source.reader };
 
+    /// Reads from the reader. Its error is an edge fault, whichever it is.
     fn read(&mut self, buf: &mut [u8]) -> Result<usize, Failed> {
         match self.reader.read(buf) {
             Ok(taken) => Ok(taken),

@@ -1,1 +1,5 @@
-pub mod Form
+pub mod Elf
+pub mod FaultName
+pub mod Fields
+pub mod Laws
+pub mod Segments

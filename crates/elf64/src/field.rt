@@ -1,8 +1,9 @@
-//! Fields of an ELF file: numbers at an offset, the lowest byte first.
+//! Numbers of a file that stand at an offset, the lowest byte first (System V ABI, "Data
+//! Encoding").
 
 ghost use Rattle.std.specs.Prelude.{◌≡◌, ◌+◌, ◌≤◌, length};
 ghost use Rattle.std.specs.Int.{w16, w32, w64};
-ghost use Rattle.elf64.specs.Form.{number_at};
+ghost use Rattle.elf64.specs.Fields.{number_at};
 
 /// The number of two bytes at the offset.
 pub fn u16_at(bytes: &[u8], at: usize) -> u16

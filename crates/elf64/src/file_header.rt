@@ -1,121 +1,165 @@
 //! The file header (System V ABI, "ELF Header").
 
-ghost use Rattle.std.specs.Prelude.{◌≡◌, ◌↔◌, ◌+◌, ◌≤◌, [], ◌∷◌, length, take, slice_index, IsTrue};
-ghost use Rattle.std.specs.Int.{w16};
-ghost use Rattle.elf64.specs.Form.{HasFileHeader, number_at, entry_of, header_of};
+ghost use Rattle.std.specs.Prelude.{◌≡◌, ◌≤◌, length, OnOk};
+ghost use Rattle.std.specs.Result.{result_err};
+ghost use Rattle.elf64.specs.Elf as elf;
+ghost use Rattle.elf64.specs.Elf.{first_fault, file_checks};
+ghost use Rattle.elf64.specs.Fields as fields;
 
+use crate::fault::ElfFault;
 use crate::field::{u16_at, u64_at};
-use crate::program_header::PROGRAM_HEADER_SIZE;
 
 /// How many bytes the file header takes.
 pub const FILE_HEADER_SIZE: usize = 64;
 
-/// How many bytes a file may have.
-const LARGEST_FILE: usize = 0x100_0000;
+/// How many bytes a file may have, and load.
+pub const LARGEST_FILE: usize = 0x100_0000;
+
+/// How many program headers a file may have.
+const MOST_PROGRAM_HEADERS: u16 = 64;
+
+/// The first bytes of each ELF file, `ELFMAG`.
+const ELFMAG: [u8; 4] = [0x7f, b'E', b'L', b'F'];
 
 /// Where the class stands, one byte.
-const CLASS_AT: usize = 4;
+const EI_CLASS: usize = 4;
+
+/// The class of files for 64-bit machines.
+const ELFCLASS64: u8 = 2;
 
 /// Where the order of numbers' bytes stands, one byte.
-const ORDER_AT: usize = 5;
+const EI_DATA: usize = 5;
 
-/// Where the kind of file stands, two bytes, `e_type`.
-const KIND_AT: usize = 16;
+/// The lowest byte first.
+const ELFDATA2LSB: u8 = 1;
 
-/// Where the machine stands, two bytes, `e_machine`.
-const MACHINE_AT: usize = 18;
+/// The kind of a file that is a program at fixed addresses.
+const ET_EXEC: u16 = 2;
 
-/// Where the entry stands, eight bytes, `e_entry`.
-const ENTRY_AT: usize = 24;
+/// The machine RISC-V.
+const EM_RISCV: u16 = 243;
 
-/// Where the offset of the program headers stands, eight bytes, `e_phoff`.
-const PROGRAM_HEADERS_AT: usize = 32;
-
-/// Where the size of a program header stands, two bytes, `e_phentsize`.
-const PROGRAM_HEADER_SIZE_AT: usize = 54;
-
-/// Where the number of program headers stands, two bytes, `e_phnum`.
-const PROGRAM_HEADER_COUNT_AT: usize = 56;
-
-/// The first bytes of each ELF file.
-const MAGIC_NUMBER: [u8; 4] = [0x7f, b'E', b'L', b'F'];
-
-/// The class of files for 64-bit machines, `ELFCLASS64`.
-const CLASS_64: u8 = 2;
-
-/// The order of numbers' bytes, `ELFDATA2LSB`.
-const LOW_BYTE_FIRST: u8 = 1;
-
-/// The kind of a file that is a program at fixed addresses, `ET_EXEC`.
-const EXECUTABLE: u16 = 2;
-
-/// The machine that a program is for, `EM_RISCV`.
-const RISC_V: u16 = 243;
-
-/// Whether the file begins with the header of a 64-bit RISC-V executable, low byte first,
-/// isn't too large, and has its one program header in it.
-pub fn has_file_header(bytes: &[u8]) -> bool
-    requires { 64 ≤ length bytes.now }
-    ensures { IsTrue result ↔ HasFileHeader bytes.now }
+/// The first fault of a file that its size and its file header show:
+///
+/// - `Short`: it has fewer than 64 bytes.
+/// - `TooBig`: it has more than 16,777,216 bytes or more than 64 program headers.
+/// - `Magic`: it doesn't begin with `ELFMAG`.
+/// - `Class`: it isn't of `ELFCLASS64`.
+/// - `Order`: it isn't of `ELFDATA2LSB`.
+/// - `FileKind`: it isn't of `ET_EXEC`.
+/// - `Machine`: it isn't for `EM_RISCV`.
+#[tactic(auto, unfolding(crate::specs::Elf::file_checks))]
+pub fn check_file_header(bytes: &[u8]) -> Result<(), ElfFault>
+    ensures fault { result_err result ≡ first_fault (file_checks bytes.now) }
+    ensures long { OnOk result (fields.file_header_size ≤ length bytes.now) }
+    ensures small { OnOk result (length bytes.now ≤ elf.largest_file) }
 {
-    bytes.len() <= LARGEST_FILE
-        && is_elf64(bytes)
-        && is_riscv_executable(bytes)
-        && has_one_program_header(bytes)
+    if is_short(bytes) {
+        return Err(ElfFault::Short);
+    }
+    if is_too_big(bytes) {
+        return Err(ElfFault::TooBig);
+    }
+    if has_other_magic(bytes) {
+        return Err(ElfFault::Magic);
+    }
+    if has_other_class(bytes) {
+        return Err(ElfFault::Class);
+    }
+    if has_other_order(bytes) {
+        return Err(ElfFault::Order);
+    }
+    if e_type(bytes) != ET_EXEC {
+        return Err(ElfFault::FileKind);
+    }
+    if e_machine(bytes) != EM_RISCV {
+        return Err(ElfFault::Machine);
+    }
+    Ok(())
 }
 
-/// Whether the file is an ELF file for 64-bit machines, low byte first.
-fn is_elf64(bytes: &[u8]) -> bool
-    requires { 64 ≤ length bytes.now }
-    ensures { IsTrue result
-        ↔ ((take 4 bytes.now ≡ 0x7f ∷ 0x45 ∷ 0x4c ∷ 0x46 ∷ [])
-        × (slice_index bytes.now 4 ≡ 2)
-        × (slice_index bytes.now 5 ≡ 1)) }
+/// Whether the file has fewer bytes than a file header.
+fn is_short(bytes: &[u8]) -> bool
+    ensures { result ≡ elf.is_short bytes.now }
 {
-    has_magic_number(bytes) && bytes[CLASS_AT] == CLASS_64 && bytes[ORDER_AT] == LOW_BYTE_FIRST
+    bytes.len() < FILE_HEADER_SIZE
 }
 
-/// Whether the file begins as each ELF file does.
-fn has_magic_number(bytes: &[u8]) -> bool
-    ensures { IsTrue result ↔ (take 4 bytes.now ≡ 0x7f ∷ 0x45 ∷ 0x4c ∷ 0x46 ∷ []) }
+/// Whether the file has too many bytes or program headers.
+fn is_too_big(bytes: &[u8]) -> bool
+    requires { fields.file_header_size ≤ length bytes.now }
+    ensures { result ≡ elf.is_too_big bytes.now }
 {
-    bytes.starts_with(&MAGIC_NUMBER)
+    bytes.len() > LARGEST_FILE || e_phnum(bytes) > MOST_PROGRAM_HEADERS
 }
 
-/// Whether the file is a program for RISC-V.
-fn is_riscv_executable(bytes: &[u8]) -> bool
-    requires { 64 ≤ length bytes.now }
-    ensures { IsTrue result
-        ↔ ((number_at w16 bytes.now 16 ≡ 2) × (number_at w16 bytes.now 18 ≡ 243)) }
+/// Whether the file begins otherwise than each ELF file does.
+fn has_other_magic(bytes: &[u8]) -> bool
+    ensures { result ≡ elf.has_other_magic bytes.now }
 {
-    u16_at(bytes, KIND_AT) == EXECUTABLE && u16_at(bytes, MACHINE_AT) == RISC_V
+    !bytes.starts_with(&ELFMAG)
 }
 
-/// Whether the file has one program header, of the right size and in the file.
-fn has_one_program_header(bytes: &[u8]) -> bool
-    requires { 64 ≤ length bytes.now }
-    ensures { IsTrue result
-        ↔ ((number_at w16 bytes.now 54 ≡ 56)
-        × (number_at w16 bytes.now 56 ≡ 1)
-        × (header_of bytes.now + 56 ≤ length bytes.now)) }
+/// Whether the file isn't for 64-bit machines.
+fn has_other_class(bytes: &[u8]) -> bool
+    requires { fields.file_header_size ≤ length bytes.now }
+    ensures { result ≡ elf.has_other_class bytes.now }
 {
-    u16_at(bytes, PROGRAM_HEADER_SIZE_AT) as usize == PROGRAM_HEADER_SIZE
-        && u16_at(bytes, PROGRAM_HEADER_COUNT_AT) == 1
-        && program_header_offset(bytes) <= (bytes.len() - PROGRAM_HEADER_SIZE) as u64
+    bytes[EI_CLASS] != ELFCLASS64
+}
+
+/// Whether the lowest byte isn't first in the file's numbers.
+fn has_other_order(bytes: &[u8]) -> bool
+    requires { fields.file_header_size ≤ length bytes.now }
+    ensures { result ≡ elf.has_other_order bytes.now }
+{
+    bytes[EI_DATA] != ELFDATA2LSB
+}
+
+/// The kind of file.
+fn e_type(bytes: &[u8]) -> u16
+    requires { fields.file_header_size ≤ length bytes.now }
+    ensures { result ≡ fields.e_type bytes.now }
+{
+    u16_at(bytes, 16)
+}
+
+/// The machine that the program is for.
+fn e_machine(bytes: &[u8]) -> u16
+    requires { fields.file_header_size ≤ length bytes.now }
+    ensures { result ≡ fields.e_machine bytes.now }
+{
+    u16_at(bytes, 18)
 }
 
 /// The address of the program's first instruction.
-pub fn entry(bytes: &[u8]) -> u64
-    requires { 64 ≤ length bytes.now }
-    ensures { result ≡ entry_of bytes.now }
+pub fn e_entry(bytes: &[u8]) -> u64
+    requires { fields.file_header_size ≤ length bytes.now }
+    ensures { result ≡ fields.e_entry bytes.now }
 {
-    u64_at(bytes, ENTRY_AT)
+    u64_at(bytes, 24)
 }
 
-/// The offset of the program header.
-pub fn program_header_offset(bytes: &[u8]) -> u64
-    requires { 64 ≤ length bytes.now }
-    ensures { result ≡ header_of bytes.now }
+/// The offset of the first program header.
+pub fn e_phoff(bytes: &[u8]) -> u64
+    requires { fields.file_header_size ≤ length bytes.now }
+    ensures { result ≡ fields.e_phoff bytes.now }
 {
-    u64_at(bytes, PROGRAM_HEADERS_AT)
+    u64_at(bytes, 32)
+}
+
+/// How many bytes each program header takes.
+pub fn e_phentsize(bytes: &[u8]) -> u16
+    requires { fields.file_header_size ≤ length bytes.now }
+    ensures { result ≡ fields.e_phentsize bytes.now }
+{
+    u16_at(bytes, 54)
+}
+
+/// How many program headers there are.
+pub fn e_phnum(bytes: &[u8]) -> u16
+    requires { fields.file_header_size ≤ length bytes.now }
+    ensures { result ≡ fields.e_phnum bytes.now }
+{
+    u16_at(bytes, 56)
 }

@@ -1,14 +1,19 @@
-//! ELF files: a program's image from the bytes of its file.
+//! ELF files: a program's image from the bytes of its file, or why it has none.
 #![tactic(auto)]
 
+mod elf_laws;
 mod fault;
 mod field;
 mod file_header;
+mod loads;
 mod program_header;
+mod program_table;
 mod read;
+mod segments;
 
-pub use fault::ElfFault;
-pub use machine_model::{Bytes, Image, Segment, Segments};
+pub use elf_laws::{entry_is_sound, memory_is_no_fault, segments_are_sound};
+pub use fault::{ElfFault, ImageFault};
+pub use image_model::{Bytes, Image, Segment, Segments};
 pub use read::read_image;
 
 #[cfg(test)]

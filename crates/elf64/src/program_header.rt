@@ -1,15 +1,17 @@
 //! Program headers (System V ABI, "Program Header").
 
-ghost use Rattle.std.specs.Prelude.{◌≡◌, ◌↔◌, ◌+◌, ◌^◌, ◌<◌, ◌≤◌, length, IsTrue};
-ghost use Rattle.machine_model.specs.Loaded as pages;
+ghost use Rattle.std.specs.Prelude.{◌≡◌, ◌+◌, ◌^◌, ◌<◌, ◌≤◌, nat_lt, length};
 
 use crate::field::{u32_at, u64_at};
 
 /// How many bytes a program header takes in the file.
 pub const PROGRAM_HEADER_SIZE: usize = 56;
 
-/// The kind of a loaded segment, `PT_LOAD`.
-const LOADED: u32 = 1;
+/// The type of a header whose segment is loaded into memory.
+const PT_LOAD: u32 = 1;
+
+/// The flag of segments that may be executed.
+const PF_X: u32 = 1;
 
 /// Programs lie from this address on.
 const LOWEST_ADDRESS: u64 = 0x1000;
@@ -20,86 +22,120 @@ const HIGHEST_ADDRESS: u64 = 0x3f_c000_0000;
 /// Memory comes in pages of so many bytes.
 const PAGE_SIZE: u64 = 0x1000;
 
-/// What a program header says of its segment. A field may have any value that its type
-/// has.
-#[derive(Clone, Copy, Debug, PartialEq, Eq)]
+/// What a program header says of its segment. A field may have any value that its type has.
+#[derive(Clone, Copy, Debug, PartialEq, Eq, Default)]
 pub struct ProgramHeader {
-    /// What the segment is for: 1 where it is loaded into memory.
-    pub kind: u32,
+    /// What the segment is for.
+    pub p_type: u32,
     /// Its permissions, 1 execute, 2 write, 4 read, added, and bits with other meanings.
-    pub flags: u32,
+    pub p_flags: u32,
     /// Where its file bytes begin in the file.
-    pub offset: u64,
+    pub p_offset: u64,
     /// The address of its first byte.
-    pub address: u64,
+    pub p_vaddr: u64,
     /// How many file bytes it has.
-    pub file_size: u64,
+    pub p_filesz: u64,
     /// How many bytes of memory it takes.
-    pub memory_size: u64,
+    pub p_memsz: u64,
 }
 
 impl ProgramHeader {
-    ghost use Rattle.elf64.specs.Form.{program_header, IsLoadable, IsEntry, highest_address};
+    ghost use Rattle.elf64.specs.Fields.{program_header_at};
+    ghost use Rattle.elf64.specs.Segments as segments;
+    ghost use Rattle.image_model.specs.Pages.{page_of};
+    ghost use Rattle.image_model.specs.StartOf.{is_on_page};
 
     /// The program header that stands at the offset.
     pub fn read(bytes: &[u8], at: usize) -> ProgramHeader
         requires { at + 56 ≤ length bytes.now }
-        ensures { result ≡ program_header bytes.now at }
+        ensures { result ≡ program_header_at bytes.now at }
     {
         ProgramHeader {
-            kind: u32_at(bytes, at),
-            flags: u32_at(bytes, at + 4),
-            offset: u64_at(bytes, at + 8),
-            address: u64_at(bytes, at + 16),
-            file_size: u64_at(bytes, at + 32),
-            memory_size: u64_at(bytes, at + 40),
+            p_type: u32_at(bytes, at),
+            p_flags: u32_at(bytes, at + 4),
+            p_offset: u64_at(bytes, at + 8),
+            p_vaddr: u64_at(bytes, at + 16),
+            p_filesz: u64_at(bytes, at + 32),
+            p_memsz: u64_at(bytes, at + 40),
         }
     }
 
-    /// Whether the segment is loaded, has its file bytes in a file of so many bytes, and
-    /// its memory in the addresses of programs.
-    pub fn is_loadable(&self, file_length: usize) -> bool
-        ensures { IsTrue result ↔ IsLoadable file_length self.now }
+    /// Whether the segment is loaded into memory.
+    pub fn is_load(&self) -> bool
+        ensures { result ≡ segments.is_load self.now }
     {
-        self.kind == LOADED
-            && (self.file_size == 0 || ends_within(self.offset, self.file_size, file_length as u64))
-            && self.file_size <= self.memory_size
-            && self.memory_size >= 1
-            && self.address >= LOWEST_ADDRESS
-            && ends_within(self.address, self.memory_size, HIGHEST_ADDRESS)
+        self.p_type == PT_LOAD
     }
 
-    /// Whether the entry is the address of an instruction on a page of the segment, which
-    /// is executable.
-    pub fn has_entry(&self, entry: u64) -> bool
-        requires { self.now.address + self.now.memory_size ≤ highest_address }
-        ensures { IsTrue result ↔ IsEntry self.now entry }
+    /// Whether the segment has a byte of memory.
+    pub fn has_memory(&self) -> bool
+        ensures { result ≡ segments.has_memory self.now }
     {
-        entry % 4 == 0
-            && self.flags % 2 == 1
-            && page_start(self.address) <= entry
-            && entry < page_end(self.address + self.memory_size)
+        self.p_memsz > 0
+    }
+
+    /// Whether the file bytes don't lie in a file of so many bytes, or are more than the bytes
+    /// of memory.
+    pub fn has_wrong_range(&self, file_length: usize) -> bool
+        ensures { result ≡ segments.has_wrong_range file_length self.now }
+    {
+        self.leaves_file(file_length) || self.p_filesz > self.p_memsz
+    }
+
+    /// Whether a file byte lies behind the end of a file of so many bytes.
+    fn leaves_file(&self, file_length: usize) -> bool
+        ensures { result ≡ segments.leaves_file file_length self.now }
+    {
+        self.p_filesz > 0 && ends_behind(self.p_offset, self.p_filesz, file_length as u64)
+    }
+
+    /// Whether the segment has memory outside of the addresses of programs.
+    pub fn has_wrong_address(&self) -> bool
+        ensures { result ≡ segments.has_wrong_address self.now }
+    {
+        self.has_memory()
+            && (self.p_vaddr < LOWEST_ADDRESS
+                || ends_behind(self.p_vaddr, self.p_memsz, HIGHEST_ADDRESS))
+    }
+
+    /// Whether the two segments share an address.
+    pub fn shares_address(&self, other: &ProgramHeader) -> bool
+        ensures { result ≡ segments.shares_address self.now other.now }
+    {
+        self.has_memory()
+            && other.has_memory()
+            && other.ends_behind_address(self.p_vaddr)
+            && self.ends_behind_address(other.p_vaddr)
+    }
+
+    /// Whether the segment ends behind the address.
+    fn ends_behind_address(&self, address: u64) -> bool
+        ensures { result ≡ nat_lt address (segments.memory_end self.now) }
+    {
+        address < self.p_vaddr || address - self.p_vaddr < self.p_memsz
+    }
+
+    /// Whether the segment may be executed and has a byte on the page of the address.
+    pub fn is_executable_at(&self, address: u64) -> bool
+        ensures { result ≡ segments.is_executable_on (page_of address) self.now }
+    {
+        self.is_on_page(address / PAGE_SIZE) && self.p_flags & PF_X != 0
+    }
+
+    /// Whether the segment has a byte on the page.
+    fn is_on_page(&self, page: u64) -> bool
+        requires { page < 2 ^ 52 }
+        ensures { result ≡ is_on_page self.now.p_vaddr self.now.p_memsz page }
+    {
+        self.has_memory()
+            && self.p_vaddr / PAGE_SIZE <= page
+            && self.ends_behind_address(page * PAGE_SIZE)
     }
 }
 
-/// Whether so many bytes from the start on end at the limit or below it.
-fn ends_within(start: u64, size: u64, limit: u64) -> bool
-    ensures { IsTrue result ↔ (start + size ≤ limit) }
+/// Whether so many bytes from the start on end behind the limit.
+pub fn ends_behind(start: u64, size: u64, limit: u64) -> bool
+    ensures { result ≡ nat_lt limit (start + size) }
 {
-    start.checked_add(size).is_some_and(|end| end <= limit)
-}
-
-/// The first address of the page that an address is on.
-fn page_start(address: u64) -> u64
-    ensures { result ≡ pages.page_start address }
-{
-    address / PAGE_SIZE * PAGE_SIZE
-}
-
-/// The first page's address at or behind an address.
-fn page_end(address: u64) -> u64
-    requires { address + 0xfff < 2 ^ 64 }
-    ensures { result ≡ pages.page_end address }
-{
-    page_start(address + (PAGE_SIZE - 1))
+    start.checked_add(size).is_none_or(|end| end > limit)
 }

@@ -1,78 +1,60 @@
 //! Reading of an image.
 
-ghost use Rattle.std.specs.Prelude.{◌≡◌, ◌↔◌, ◌<◌, ◌≤◌, length, take, drop, IfOk, IfSome, IsNone, IsSome, Err};
-ghost use Rattle.elf64.specs.Form.{HasForm, IsLoadable, header_of, image_of, program_header, segment_of};
+ghost use Rattle.std.specs.Prelude.{◌≡◌, ◌≢◌, ◌≤◌, false, length, IfErr, IfOk, IsOk, OnOk};
+ghost use Rattle.std.specs.Result.{result_err};
+ghost use Rattle.elf64.specs.Elf.{elf, checks, first_fault, has_wrong_ranges};
+ghost use Rattle.elf64.specs.Fields.{file_header_size};
+ghost use Rattle.elf64.specs.Segments.{loads};
 
 use crate::fault::ElfFault;
-use crate::file_header::{FILE_HEADER_SIZE, entry, has_file_header, program_header_offset};
-use crate::program_header::ProgramHeader;
-use machine_model::{Bytes, Image, Segment, Segments};
-use std::alloc::{AllocError, Global};
+use crate::file_header::{check_file_header, e_entry};
+use crate::loads::Loads;
+use crate::program_table::read_loads;
+use crate::segments::{check_loads, segments};
+use image_model::{Image, Segments};
+use std::alloc::Global;
 
-/// The image that the bytes of an ELF file are. The form that is read: a 64-bit
-/// RISC-V executable, low byte first, of at most 16,777,216 bytes, with one program
-/// header, whose segment is loaded and has the entry on an executable page.
+/// The image of a statically linked 64-bit RISC-V executable, from the bytes of its ELF file, or
+/// the file's first fault in this order (System V ABI, "ELF Header" and "Program Header"):
 ///
-/// - `Short`: there are fewer than 64 bytes.
-/// - `Form`: there are 64 or more, and they aren't in the form.
-/// - `Memory`: they are in the form, and there is no room for the image.
+/// - `Short`: it has fewer than 64 bytes.
+/// - `TooBig`: it has more than 16,777,216 bytes or more than 64 program headers.
+/// - `Magic`, `Class`, `Order`: it doesn't begin with `ELFMAG`, isn't of `ELFCLASS64`, isn't of
+///   `ELFDATA2LSB`.
+/// - `FileKind`, `Machine`: it isn't of `ET_EXEC`, isn't for `EM_RISCV`.
+/// - `HeaderSize`, `ProgramHeader`: it has program headers, and not of 56 bytes each, or not all
+///   of them lie in it.
+/// - `TooBig`: it has more than 16 PT_LOADs.
+/// - `SegmentRange`: the file bytes of a PT_LOAD don't lie in the file, or are more than its bytes
+///   of memory.
+/// - `TooBig`: the PT_LOADs have more than 16,777,216 file bytes together.
+/// - `Address`: a PT_LOAD with memory begins below 0x1000 or ends above 0x3FC0000000.
+/// - `Overlap`: two PT_LOADs with memory share an address.
+/// - `Entry`: the entry isn't a multiple of 4, or isn't on an executable page.
+///
+/// `Memory` comes only where the file has no fault: there is no room for the image.
 pub fn read_image(alloc: Global, bytes: &[u8]) -> Result<Image, ElfFault>
-    ensures image { IfOk result (λ image. HasForm bytes.now × (image ≡ image_of bytes.now)) }
-    ensures short { (result ≡ Err ElfFault.Short) ↔ (length bytes.now < 64) }
-    ensures form { (result ≡ Err ElfFault.Form) ↔ ((64 ≤ length bytes.now) × (HasForm bytes.now → ⊥)) }
-    ensures memory { result ≡ Err ElfFault.Memory → HasForm bytes.now }
+    ensures image { IfOk result (λ image. elf bytes.now ≡ Ok image) }
+    ensures fault { IfErr result (λ fault. fault ≢ ElfFault.Memory → elf bytes.now ≡ Err fault) }
+    ensures memory { result ≡ Err ElfFault.Memory → IsOk (elf bytes.now) }
 {
-    if bytes.len() < FILE_HEADER_SIZE {
-        return Err(ElfFault::Short);
-    }
-    let header = loadable_header(bytes).ok_or(ElfFault::Form)?;
-    let mut segments = Vec::new(alloc);
-    segments.push(segment(alloc, bytes, &header)?)?;
+    let loads = check(bytes)?;
+    let segments = segments(alloc, bytes, loads.as_slice())?;
     Ok(Image {
-        entry: entry(bytes),
+        entry: e_entry(bytes),
         segments: Segments::from_vec(segments),
     })
 }
 
-/// The program header of a file that is in the form, and none of another file.
-fn loadable_header(bytes: &[u8]) -> Option<ProgramHeader>
-    requires { 64 ≤ length bytes.now }
-    ensures formed { IsSome result → HasForm bytes.now }
-    ensures header { IfSome result (λ h. h ≡ program_header bytes.now (header_of bytes.now)) }
-    ensures other { IsNone result ↔ (HasForm bytes.now → ⊥) }
+/// The PT_LOADs of a file without fault, or its first fault, as `read_image` tells them.
+fn check(bytes: &[u8]) -> Result<Loads, ElfFault>
+    ensures fault { result_err result ≡ first_fault (checks bytes.now) }
+    ensures loads { IfOk result (λ found. found ≡ loads bytes.now) }
+    ensures ranges { OnOk result (has_wrong_ranges bytes.now ≡ false) }
+    ensures long { OnOk result (file_header_size ≤ length bytes.now) }
 {
-    if !has_file_header(bytes) {
-        return None;
-    }
-    let header = ProgramHeader::read(bytes, program_header_offset(bytes) as usize);
-    if header.is_loadable(bytes.len()) && header.has_entry(entry(bytes)) {
-        Some(header)
-    } else {
-        None
-    }
-}
-
-/// The segment of a program header, with its bytes copied.
-fn segment(alloc: Global, bytes: &[u8], header: &ProgramHeader) -> Result<Segment, AllocError>
-    requires { IsLoadable (length bytes.now) header.now }
-    ensures { IfOk result (λ s. s ≡ segment_of bytes.now header.now) }
-{
-    Ok(Segment {
-        at: header.address,
-        flags: header.flags % 8,
-        size: header.memory_size,
-        bytes: Bytes::from_vec(Vec::from_slice(alloc, file_bytes(bytes, header))?),
-    })
-}
-
-/// The file bytes of a segment.
-fn file_bytes<'a>(bytes: &'a [u8], header: &ProgramHeader) -> &'a [u8]
-    requires { IsLoadable (length bytes.now) header.now }
-    ensures { result.now ≡ take header.now.file_size (drop header.now.offset bytes.now) }
-{
-    if header.file_size == 0 {
-        return &[];
-    }
-    let start = header.offset as usize;
-    &bytes[start..start + header.file_size as usize]
+    check_file_header(bytes)?;
+    let loads = read_loads(bytes)?;
+    check_loads(bytes, loads.as_slice())?;
+    Ok(loads)
 }

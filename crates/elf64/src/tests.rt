@@ -1,163 +1,372 @@
-//! Files from outside: what is accepted, and what is one field away from it.
+//! Files from outside: what is accepted, and what is one field away from it. Expected values are
+//! by hand, from the table of faults.
 
 use super::*;
-use std::alloc::Global;
+use std::alloc::{AllocError, Global};
 use std::test::Fail;
 
-/// A file with one segment of twelve instructions, behind a file header of 64 bytes and a
-/// program header of 56.
-const FILE: [u8; 168] = [
-    0x7f, 0x45, 0x4c, 0x46, 0x02, 0x01, 0x01, 0x00, 0x00, 0x00, 0x00, 0x00, 0x00, 0x00, 0x00, 0x00,
-    0x02, 0x00, 0xf3, 0x00, 0x01, 0x00, 0x00, 0x00, 0x00, 0x00, 0x01, 0x00, 0x00, 0x00, 0x00, 0x00,
-    0x40, 0x00, 0x00, 0x00, 0x00, 0x00, 0x00, 0x00, 0x00, 0x00, 0x00, 0x00, 0x00, 0x00, 0x00, 0x00,
-    0x00, 0x00, 0x00, 0x00, 0x40, 0x00, 0x38, 0x00, 0x01, 0x00, 0x00, 0x00, 0x00, 0x00, 0x00, 0x00,
-    0x01, 0x00, 0x00, 0x00, 0x07, 0x00, 0x00, 0x00, 0x78, 0x00, 0x00, 0x00, 0x00, 0x00, 0x00, 0x00,
-    0x00, 0x00, 0x01, 0x00, 0x00, 0x00, 0x00, 0x00, 0x00, 0x00, 0x01, 0x00, 0x00, 0x00, 0x00, 0x00,
-    0x30, 0x00, 0x00, 0x00, 0x00, 0x00, 0x00, 0x00, 0x00, 0x10, 0x00, 0x00, 0x00, 0x00, 0x00, 0x00,
-    0x01, 0x00, 0x00, 0x00, 0x00, 0x00, 0x00, 0x00, 0x13, 0x04, 0x10, 0x00, 0x13, 0x14, 0x04, 0x01,
-    0x13, 0x05, 0x04, 0x10, 0x93, 0x05, 0x00, 0x40, 0x93, 0x08, 0x70, 0x00, 0x73, 0x00, 0x00, 0x00,
-    0x13, 0x05, 0x04, 0x10, 0x93, 0x08, 0x60, 0x00, 0x73, 0x00, 0x00, 0x00, 0x13, 0x05, 0x00, 0x00,
-    0x93, 0x08, 0x80, 0x00, 0x73, 0x00, 0x00, 0x00,
-];
-
 /// An offset, how many bytes to put there, and the number whose low bytes they are.
-type Edit = (u8, u8, u64);
+type Edit = (usize, u8, u64);
 
 /// No edit.
 const NONE: Edit = (0, 0, 0);
 
-/// An image's entry, and its one segment's address, flags, size and number of file bytes.
-type Seen = (u64, u64, u32, u64, usize);
+// Where the fields of the file header stand.
+const E_TYPE: usize = 16;
 
-/// Edits of the file, and what is read then.
-const CASES: [([Edit; 2], Result<Option<Seen>, ElfFault>); 38] = [
-    ([NONE, NONE], Ok(Some((0x1_0000, 0x1_0000, 7, 4096, 48)))),
-    // The magic number, the class and the order of bytes.
-    ([(0, 1, 0x7e), NONE], Err(ElfFault::Form)),
-    ([(1, 1, 0x65), NONE], Err(ElfFault::Form)),
-    ([(2, 1, 0x6c), NONE], Err(ElfFault::Form)),
-    ([(3, 1, 0x47), NONE], Err(ElfFault::Form)),
-    ([(4, 1, 1), NONE], Err(ElfFault::Form)),
-    ([(5, 1, 2), NONE], Err(ElfFault::Form)),
-    // The kind of file, and the machine.
-    ([(16, 2, 3), NONE], Err(ElfFault::Form)),
-    ([(18, 2, 62), NONE], Err(ElfFault::Form)),
-    // The program headers' size, number and offset.
-    ([(54, 2, 55), NONE], Err(ElfFault::Form)),
-    ([(54, 2, 57), NONE], Err(ElfFault::Form)),
-    ([(56, 2, 0), NONE], Err(ElfFault::Form)),
-    ([(56, 2, 2), NONE], Err(ElfFault::Form)),
-    ([(32, 8, 113), NONE], Err(ElfFault::Form)),
-    ([(32, 8, u64::MAX - 7), NONE], Err(ElfFault::Form)),
-    // The kind of segment.
-    ([(64, 4, 2), NONE], Err(ElfFault::Form)),
-    // Its file bytes: behind the end of the file, one byte too many, and an end that wraps.
-    ([(72, 8, 169), NONE], Err(ElfFault::Form)),
-    ([(72, 8, 121), NONE], Err(ElfFault::Form)),
-    ([(72, 8, u64::MAX), NONE], Err(ElfFault::Form)),
-    // No file byte at an offset that is in no file.
+const E_MACHINE: usize = 18;
+
+const E_ENTRY: usize = 24;
+
+const E_PHOFF: usize = 32;
+
+const E_FLAGS: usize = 48;
+
+const E_PHENTSIZE: usize = 54;
+
+const E_PHNUM: usize = 56;
+
+// Where the program headers stand, and how far into them their fields.
+const NOTE: usize = 64;
+
+const CODE: usize = 120;
+
+const ZEROS: usize = 176;
+
+const STACK: usize = 232;
+
+const P_FLAGS: usize = 4;
+
+const P_OFFSET: usize = 8;
+
+const P_VADDR: usize = 16;
+
+const P_FILESZ: usize = 32;
+
+const P_MEMSZ: usize = 40;
+
+/// How many bytes the file has.
+const SIZE: usize = 296;
+
+/// A file with four program headers: one of type 4, code of two instructions, zeros without a
+/// file byte, and one of a type that is the system's own.
+const FIELDS: [Edit; 28] = [
+    (0, 4, 0x464c_457f),
+    (4, 1, 2),
+    (5, 1, 1),
+    (6, 1, 1),
+    (E_TYPE, 2, 2),
+    (E_MACHINE, 2, 243),
+    (E_ENTRY, 8, 0x1_0000),
+    (E_PHOFF, 8, 64),
+    (E_FLAGS, 4, 5),
+    (E_PHENTSIZE, 2, 56),
+    (E_PHNUM, 2, 4),
+    (NOTE, 4, 4),
+    (NOTE + P_OFFSET, 8, 0x1000),
+    (NOTE + P_FILESZ, 8, 0x1000),
+    (CODE, 4, 1),
+    (CODE + P_FLAGS, 4, 5),
+    (CODE + P_OFFSET, 8, 288),
+    (CODE + P_VADDR, 8, 0x1_0000),
+    (CODE + P_FILESZ, 8, 8),
+    (CODE + P_MEMSZ, 8, 0x1000),
+    (ZEROS, 4, 1),
+    (ZEROS + P_FLAGS, 4, 6),
+    (ZEROS + P_VADDR, 8, 0x2_0000),
+    (ZEROS + P_MEMSZ, 8, 0x100),
+    (STACK, 4, 0x6474_e551),
+    (STACK + P_FLAGS, 4, 6),
+    (288, 4, 0x13),
+    (292, 4, 0x73),
+];
+
+/// Edits of the file, and its first fault then.
+const FAULTS: [([Edit; 2], ElfFault); 41] = [
+    ([(E_PHNUM, 2, 65), NONE], ElfFault::TooBig),
+    ([(E_PHNUM, 2, 64), NONE], ElfFault::ProgramHeader),
+    ([(0, 1, 0x7e), NONE], ElfFault::Magic),
+    ([(3, 1, 0x47), NONE], ElfFault::Magic),
+    ([(4, 1, 1), NONE], ElfFault::Class),
+    ([(5, 1, 2), NONE], ElfFault::Order),
+    ([(E_TYPE, 2, 3), NONE], ElfFault::FileKind),
+    ([(E_MACHINE, 2, 62), NONE], ElfFault::Machine),
+    ([(E_PHENTSIZE, 2, 55), NONE], ElfFault::HeaderSize),
+    ([(E_PHOFF, 8, 73), NONE], ElfFault::ProgramHeader),
+    ([(E_PHOFF, 8, u64::MAX - 7), NONE], ElfFault::ProgramHeader),
+    // The code's file bytes: one too many, an end that wraps, and more than memory.
+    ([(CODE + P_OFFSET, 8, 289), NONE], ElfFault::SegmentRange),
     (
-        [(72, 8, u64::MAX), (96, 8, 0)],
-        Ok(Some((0x1_0000, 0x1_0000, 7, 4096, 0))),
+        [(CODE + P_OFFSET, 8, u64::MAX), NONE],
+        ElfFault::SegmentRange,
     ),
-    // Its memory: less than its file bytes, just as much, none, and an end that wraps.
-    ([(104, 8, 47), NONE], Err(ElfFault::Form)),
+    ([(CODE + P_MEMSZ, 8, 7), NONE], ElfFault::SegmentRange),
+    ([(ZEROS + P_FILESZ, 8, 297), NONE], ElfFault::SegmentRange),
+    // Memory below the lowest address, above the highest, and with an end that wraps.
+    ([(ZEROS + P_VADDR, 8, 0xfff), NONE], ElfFault::Address),
     (
-        [(104, 8, 48), NONE],
-        Ok(Some((0x1_0000, 0x1_0000, 7, 48, 48))),
+        [(ZEROS + P_VADDR, 8, 0x3f_bfff_ff01), NONE],
+        ElfFault::Address,
     ),
-    ([(96, 8, 0), (104, 8, 0)], Err(ElfFault::Form)),
-    ([(104, 8, u64::MAX), NONE], Err(ElfFault::Form)),
-    // Its address: below the lowest, the lowest, up to the highest, and one byte above it.
-    ([(80, 8, 0xfff), (24, 8, 0x1000)], Err(ElfFault::Form)),
+    ([(ZEROS + P_MEMSZ, 8, u64::MAX), NONE], ElfFault::Address),
+    // One byte is shared, or the one segment lies in the other.
+    ([(ZEROS + P_VADDR, 8, 0x1_0fff), NONE], ElfFault::Overlap),
+    ([(ZEROS + P_VADDR, 8, 0xff01), NONE], ElfFault::Overlap),
+    ([(ZEROS + P_VADDR, 8, 0x1_0100), NONE], ElfFault::Overlap),
+    // Between two instructions, before the code, behind it, and on zeros.
+    ([(E_ENTRY, 8, 0x1_0002), NONE], ElfFault::Entry),
+    ([(E_ENTRY, 8, 0xfffc), NONE], ElfFault::Entry),
+    ([(E_ENTRY, 8, 0x1_1000), NONE], ElfFault::Entry),
+    ([(E_ENTRY, 8, 0x2_0000), NONE], ElfFault::Entry),
+    ([(E_ENTRY, 8, u64::MAX - 3), NONE], ElfFault::Entry),
+    ([(CODE + P_FLAGS, 4, 6), NONE], ElfFault::Entry),
+    ([(CODE, 4, 2), NONE], ElfFault::Entry),
+    // No program header, at an offset that is in no file.
+    ([(E_PHNUM, 2, 0), (E_PHOFF, 8, u64::MAX)], ElfFault::Entry),
+    ([(E_PHNUM, 2, 0), (E_PHENTSIZE, 2, 0)], ElfFault::Entry),
+    // Of two faults the earlier.
+    ([(E_PHNUM, 2, 65), (0, 1, 0)], ElfFault::TooBig),
+    ([(0, 1, 0), (4, 1, 1)], ElfFault::Magic),
+    ([(4, 1, 1), (5, 1, 2)], ElfFault::Class),
+    ([(5, 1, 2), (E_TYPE, 2, 3)], ElfFault::Order),
+    ([(E_TYPE, 2, 3), (E_MACHINE, 2, 62)], ElfFault::FileKind),
     (
-        [(80, 8, 0x1000), (24, 8, 0x1000)],
-        Ok(Some((0x1000, 0x1000, 7, 4096, 48))),
-    ),
-    (
-        [(80, 8, 0x3f_bfff_f000), (24, 8, 0x3f_bfff_fffc)],
-        Ok(Some((0x3f_bfff_fffc, 0x3f_bfff_f000, 7, 4096, 48))),
-    ),
-    (
-        [(80, 8, 0x3f_bfff_f001), (24, 8, 0x3f_bfff_fffc)],
-        Err(ElfFault::Form),
-    ),
-    // The entry: between two instructions, behind the segment's page, before it, and at
-    // its last instruction.
-    ([(24, 8, 0x1_0002), NONE], Err(ElfFault::Form)),
-    ([(24, 8, 0x1_1000), NONE], Err(ElfFault::Form)),
-    ([(24, 8, 0xfffc), NONE], Err(ElfFault::Form)),
-    (
-        [(24, 8, 0x1_0ffc), NONE],
-        Ok(Some((0x1_0ffc, 0x1_0000, 7, 4096, 48))),
-    ),
-    // The entry on the page of a segment that begins and ends elsewhere on it.
-    (
-        [(80, 8, 0x1_0010), (104, 8, 64)],
-        Ok(Some((0x1_0000, 0x1_0010, 7, 64, 48))),
+        [(E_MACHINE, 2, 62), (E_PHENTSIZE, 2, 55)],
+        ElfFault::Machine,
     ),
     (
-        [(24, 8, 0x1_0ffc), (104, 8, 64)],
-        Ok(Some((0x1_0ffc, 0x1_0000, 7, 64, 48))),
+        [(E_PHENTSIZE, 2, 55), (E_PHOFF, 8, 73)],
+        ElfFault::HeaderSize,
     ),
-    // Permissions: not executable, executable alone, and bits that are masked off.
-    ([(68, 4, 6), NONE], Err(ElfFault::Form)),
+    ([(E_PHOFF, 8, 73), (E_ENTRY, 8, 1)], ElfFault::ProgramHeader),
     (
-        [(68, 4, 1), NONE],
-        Ok(Some((0x1_0000, 0x1_0000, 1, 4096, 48))),
+        [(ZEROS + P_VADDR, 8, 0), (CODE + P_MEMSZ, 8, 7)],
+        ElfFault::SegmentRange,
     ),
     (
-        [(68, 4, 0xffff_fff5), NONE],
-        Ok(Some((0x1_0000, 0x1_0000, 5, 4096, 48))),
+        [(ZEROS + P_VADDR, 8, 0xfff), (ZEROS + P_MEMSZ, 8, 0x1_0000)],
+        ElfFault::Address,
     ),
-    // A version that isn't looked at.
     (
-        [(6, 1, 0), (20, 4, 0)],
-        Ok(Some((0x1_0000, 0x1_0000, 7, 4096, 48))),
+        [(ZEROS + P_VADDR, 8, 0x1_0fff), (E_ENTRY, 8, 2)],
+        ElfFault::Overlap,
+    ),
+];
+
+/// A segment's address, flags, size and number of file bytes.
+type Seen = (u64, u32, u64, usize);
+
+/// The segment of the code.
+const CODE_SEEN: Seen = (0x1_0000, 5, 0x1000, 8);
+
+/// The segment of the zeros.
+const ZEROS_SEEN: Seen = (0x2_0000, 6, 0x100, 0);
+
+/// Edits of the file, and the entry and segments that are read then.
+const ACCEPTED: [([Edit; 4], u64, [Option<Seen>; 2]); 9] = [
+    ([NONE; 4], 0x1_0000, [Some(CODE_SEEN), Some(ZEROS_SEEN)]),
+    // No file byte, at an offset that is in no file.
+    (
+        [(ZEROS + P_OFFSET, 8, u64::MAX), NONE, NONE, NONE],
+        0x1_0000,
+        [Some(CODE_SEEN), Some(ZEROS_SEEN)],
+    ),
+    // No memory: no segment, wherever it lies.
+    (
+        [(ZEROS + P_MEMSZ, 8, 0), (ZEROS + P_VADDR, 8, 0), NONE, NONE],
+        0x1_0000,
+        [Some(CODE_SEEN), None],
+    ),
+    // The zeros begin where the code ends.
+    (
+        [(ZEROS + P_VADDR, 8, 0x1_1000), NONE, NONE, NONE],
+        0x1_0000,
+        [Some(CODE_SEEN), Some((0x1_1000, 6, 0x100, 0))],
+    ),
+    // Flags above 7.
+    (
+        [(CODE + P_FLAGS, 4, 0xffff_fff5), NONE, NONE, NONE],
+        0x1_0000,
+        [Some(CODE_SEEN), Some(ZEROS_SEEN)],
+    ),
+    // The lowest and the highest address.
+    (
+        [(ZEROS + P_VADDR, 8, 0x1000), NONE, NONE, NONE],
+        0x1_0000,
+        [Some(CODE_SEEN), Some((0x1000, 6, 0x100, 0))],
+    ),
+    (
+        [(ZEROS + P_VADDR, 8, 0x3f_bfff_ff00), NONE, NONE, NONE],
+        0x1_0000,
+        [Some(CODE_SEEN), Some((0x3f_bfff_ff00, 6, 0x100, 0))],
+    ),
+    // The last instruction of the code's page, behind its last byte.
+    (
+        [(E_ENTRY, 8, 0x1_0ffc), (CODE + P_MEMSZ, 8, 8), NONE, NONE],
+        0x1_0ffc,
+        [Some((0x1_0000, 5, 8, 8)), Some(ZEROS_SEEN)],
+    ),
+    // An entry in code that is only read, on a page that other bytes make executable.
+    (
+        [
+            (CODE + P_FLAGS, 4, 4),
+            (CODE + P_MEMSZ, 8, 0x800),
+            (ZEROS + P_VADDR, 8, 0x1_0800),
+            (ZEROS + P_FLAGS, 4, 1),
+        ],
+        0x1_0000,
+        [Some((0x1_0000, 4, 0x800, 8)), Some((0x1_0800, 1, 0x100, 0))],
     ),
 ];
 
 /// Puts the low bytes of the edit's number at its offset.
 fn put(file: &mut [u8], (at, size, number): Edit) {
     let bytes = number.to_le_bytes();
-    for k in 0..size.min(8) {
-        let place = at as usize + k as usize;
-        if place < file.len() {
-            file[place] = bytes[k as usize];
+    for k in 0..size.min(8) as usize {
+        if at < file.len() && k < file.len() - at {
+            file[at + k] = bytes[k];
         }
     }
 }
 
-fn seen(alloc: Global, file: &[u8]) -> Result<Option<Seen>, ElfFault> {
-    let image = read_image(alloc, file)?;
-    let entry = image.entry;
-    let first = image.segments.as_slice().first();
-    Ok(first.map(|s| (entry, s.at, s.flags, s.size, s.bytes.as_slice().len())))
+/// The file.
+fn file() -> [u8; SIZE] {
+    let mut file = [0; SIZE];
+    for edit in FIELDS {
+        put(&mut file, edit);
+    }
+    file
+}
+
+/// The first fault of the file, and none of an image.
+fn fault(alloc: Global, file: &[u8]) -> Option<ElfFault> {
+    read_image(alloc, file).err()
+}
+
+/// The segment, as the tests see it.
+fn seen(segment: &Segment) -> Seen {
+    let bytes = segment.bytes.as_slice().len();
+    (segment.at, segment.flags, segment.size, bytes)
 }
 
 #[test]
-fn reads_what_is_in_the_form(rt: HostRuntime) {
-    for (edits, expected) in CASES {
-        let mut file = FILE;
+fn refuses_what_is_a_field_away(rt: HostRuntime) {
+    for (edits, expected) in FAULTS {
+        let mut file = file();
         for edit in edits {
             put(&mut file, edit);
         }
-        assert_eq!(rt; seen(rt.alloc(), &file), expected, "at {edits:?}");
+        assert_eq!(rt; fault(rt.alloc(), &file), Some(expected), "at {edits:?}");
     }
 }
 
 #[test]
-fn refuses_what_is_shorter_than_a_file_header(rt: HostRuntime) {
-    assert_eq!(rt; seen(rt.alloc(), &[]), Err(ElfFault::Short));
-    assert_eq!(rt; seen(rt.alloc(), &FILE[..63]), Err(ElfFault::Short));
-    assert_eq!(rt; seen(rt.alloc(), &FILE[..64]), Err(ElfFault::Form));
+fn reads_what_has_no_fault(rt: HostRuntime) -> Result<(), Fail> {
+    for (edits, entry, expected) in ACCEPTED {
+        let mut file = file();
+        for edit in edits {
+            put(&mut file, edit);
+        }
+        let image = read_image(rt.alloc(), &file)?;
+        let segments = image.segments.as_slice();
+        assert_eq!(rt; image.entry, entry, "at {edits:?}");
+        assert_eq!(rt; segments.first().map(seen), expected[0], "at {edits:?}");
+        assert_eq!(rt; segments.get(1).map(seen), expected[1], "at {edits:?}");
+        assert!(rt; segments.len() <= 2, "at {edits:?}");
+    }
+    Ok(())
 }
 
 #[test]
-fn copies_the_bytes_of_the_segment(rt: HostRuntime) -> Result<(), Fail> {
-    let image = read_image(rt.alloc(), &FILE)?;
-    let segments = image.segments.into_vec();
-    assert_eq!(rt; segments.len(), 1);
-    assert_eq!(rt; segments[0].bytes.as_slice(), &FILE[120..]);
+fn copies_the_bytes_of_the_code(rt: HostRuntime) -> Result<(), Fail> {
+    let file = file();
+    let segments = read_image(rt.alloc(), &file)?.segments.into_vec();
+    assert_eq!(rt; segments.len(), 2);
+    assert_eq!(rt; segments[0].bytes.as_slice(), &file[288..]);
+    Ok(())
+}
+
+#[test]
+fn refuses_each_part_of_the_file(rt: HostRuntime) {
+    let file = file();
+    for size in 0..SIZE {
+        let expected = match size {
+            0..64 => ElfFault::Short,
+            64..288 => ElfFault::ProgramHeader,
+            _ => ElfFault::SegmentRange,
+        };
+        assert_eq!(rt;
+            fault(rt.alloc(), &file[..size]),
+            Some(expected),
+            "at {size}"
+        );
+    }
+}
+
+/// The file's file header with so many program headers of type 1, all else 0.
+fn with_loads(count: u16) -> [u8; 1016] {
+    let mut long = [0; 1016];
+    for edit in FIELDS {
+        if edit.0 < NOTE {
+            put(&mut long, edit);
+        }
+    }
+    put(&mut long, (E_PHNUM, 2, count.into()));
+    for k in 0..count as usize {
+        put(&mut long, (64 + 56 * k, 4, 1));
+    }
+    long
+}
+
+#[test]
+fn counts_what_is_loaded(rt: HostRuntime) {
+    assert_eq!(rt; fault(rt.alloc(), &with_loads(16)), Some(ElfFault::Entry));
+    assert_eq!(rt; fault(rt.alloc(), &with_loads(17)), Some(ElfFault::TooBig));
+}
+
+/// The file, followed by zeros up to a length.
+fn long_file(alloc: Global, size: usize) -> Result<Vec<u8>, AllocError> {
+    let mut long = vec![in alloc; 0; size]?;
+    for edit in FIELDS {
+        put(&mut long, edit);
+    }
+    Ok(long)
+}
+
+#[test]
+fn counts_bytes_of_the_file(rt: HostRuntime) -> Result<(), Fail> {
+    let longest = long_file(rt.alloc(), 0x100_0000)?;
+    assert_eq!(rt; fault(rt.alloc(), &longest), None);
+    let longer = long_file(rt.alloc(), 0x100_0001)?;
+    assert_eq!(rt; fault(rt.alloc(), &longer), Some(ElfFault::TooBig));
+    Ok(())
+}
+
+#[test]
+fn counts_file_bytes_that_are_loaded(rt: HostRuntime) -> Result<(), Fail> {
+    for (size, expected) in [(0x80_0000, None), (0x80_0001, Some(ElfFault::TooBig))] {
+        let mut long = long_file(rt.alloc(), 0x80_0001)?;
+        for edit in [
+            (CODE + P_OFFSET, 8, 0),
+            (CODE + P_FILESZ, 8, 0x80_0000),
+            (CODE + P_MEMSZ, 8, 0x80_0000),
+            (ZEROS + P_VADDR, 8, 0x100_0000),
+            (ZEROS + P_FILESZ, 8, size),
+            (ZEROS + P_MEMSZ, 8, size),
+        ] {
+            put(&mut long, edit);
+        }
+        assert_eq!(rt; fault(rt.alloc(), &long), expected, "at {size}");
+    }
+    Ok(())
+}
+
+#[test]
+fn names_faults(rt: HostRuntime) -> Result<(), Fail> {
+    let text = format!(in rt.alloc(); "{} {}", ElfFault::Short, ElfFault::SegmentRange)?;
+    assert_eq!(rt; text.as_str(), "Short SegmentRange");
+    assert_eq!(rt; ImageFault::of(ElfFault::Memory), None);
+    let short = ImageFault::of(ElfFault::Short).map(|fault| fault.fault);
+    assert_eq!(rt; short, Some(ElfFault::Short));
     Ok(())
 }

@@ -1,7 +1,9 @@
-pub mod Completeness
-pub mod Fields
-pub mod Immediates
-pub mod Reading
+pub mod Changes
+pub mod Choices
+pub mod Ends
+pub mod Hypercalls
+pub mod Instructions
+pub mod Ranges
 pub mod Runs
-pub mod Soundness
-pub mod Tables
+pub mod Start
+pub mod Values

@@ -1,16 +1,23 @@
-//! What the machine means, and nothing of how it is run: instructions, images and
-//! stops as plain data, and in `specs/` the definitions that every contract above
-//! cites. `word_laws` and `run_laws` show that the definitions mean what they should.
+//! What the machine means, and nothing of how it is run: registers, packets and stops as plain
+//! data, and in `specs/` the definitions that every contract above cites. `machine_laws`,
+//! `range_laws` and `run_laws` show that the definitions mean what they should.
 #![tactic(auto)]
 
-mod image;
-mod instruction;
+mod hart;
+mod machine_laws;
+mod packet;
+mod range_laws;
 mod run_laws;
 mod stop;
-mod word_laws;
 
-pub use image::{Bytes, Image, Segment, Segments};
-pub use instruction::{BranchOp, ImmOp, ImmWOp, Inst, LoadOp, RegOp, RegWOp, StoreOp};
-pub use run_laws::{faults_keep, instructions_add, one_end};
+pub use hart::{Hart, REGISTERS};
+pub use machine_laws::{
+    give_keeps_valid, hypercall_keeps_valid, instruction_keeps_valid, loaded_is_valid,
+};
+pub use packet::{Memory, PACKET_LIMIT, Packet};
+pub use range_laws::{least_failing_is_least, written_pages_add_up};
+pub use run_laws::{each_run_ends, exceptions_keep, instructions_add, one_end};
 pub use stop::Stop;
-pub use word_laws::{one_instruction, one_word};
+
+#[cfg(test)]
+mod tests;

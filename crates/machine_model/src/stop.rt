@@ -7,9 +7,9 @@ pub enum Stop {
     Trigger,
     /// As many instructions were counted as the run may take.
     Budget,
-    /// The instruction at `pc` can't be done: its exception cause and trap value
-    /// (RISC-V privileged manual, "Machine Cause Register").
-    Fault { cause: u64, pc: u64, tval: u64 },
+    /// The instruction at `pc` raises an exception: its cause and trap value (RISC-V
+    /// privileged manual, "Machine Cause Register" and "Machine Trap Value Register").
+    Exception { cause: u64, pc: u64, tval: u64 },
     /// The program waits for a packet and none is queued.
     Rest,
     /// The program ended itself with this code.

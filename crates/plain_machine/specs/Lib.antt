@@ -1,4 +1,4 @@
-pub mod Permission
+pub mod ImageMemory
 pub mod PlainMachine
+pub mod PlainMemory
 pub mod Turn
-pub mod Written

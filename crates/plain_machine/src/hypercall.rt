@@ -1,27 +1,30 @@
-//! The calls by which a program reaches the outside.
+//! The hypercalls, by which a program reaches the outside: a method for each.
 
-ghost use Rattle.std.specs.Prelude.{◌≡◌, ℕ, ◌+◌, ◌≤◌, ◌^◌, length, sum_by, nat_le, OnOk, IfOk};
-ghost use Rattle.machine_model.specs.Machine.{bytes_at, with_bytes};
-ghost use Rattle.plain_machine.specs.Written.{memory_over};
+ghost use Rattle.std.specs.Prelude.{◌≡◌, ◌&&◌, ◌∷◌, length, sum_by, nat_le, IfOk};
 
+use crate::image_memory::Access;
 use crate::machine::{PlainMachine, Turn};
-use crate::memory::Permission;
-use machine_model::{Bytes, Stop};
+use machine_model::{PACKET_LIMIT, Packet, Stop};
 use std::alloc::{AllocError, Global};
-use std::collections::BTreeMap;
 
-/// The exception cause of a call that there isn't (RISC-V privileged manual, "Machine
+/// The exception cause of a hypercall that there isn't (RISC-V privileged manual, "Machine
 /// Cause Register": environment call from U-mode).
 const ENVIRONMENT_CALL: u64 = 8;
 
-// The registers of a call's number, arguments and results.
+// The registers of a hypercall's number, arguments and results.
 const A7: u8 = 17;
 
 const A0: u8 = 10;
 
 const A1: u8 = 11;
 
-// The calls by their numbers.
+// The hypercalls by their numbers.
+const CLOCK_READ: u64 = 1;
+
+const CONSOLE_WRITE: u64 = 2;
+
+const WAIT: u64 = 3;
+
 const NET_WRITE: u64 = 6;
 
 const NET_READ: u64 = 7;
@@ -31,154 +34,179 @@ const HALT: u64 = 8;
 // Their results.
 const OK: u64 = 0;
 
+/// No packet is queued, for net read.
 const AGAIN: u64 = 1;
 
 const INVALID: u64 = 2;
 
-/// The most bytes of a packet, the most packets that a run may write, and the most
-/// bytes of them together.
-const PACKET_LIMIT: u64 = 32_768;
+/// A packet is queued, for wait.
+const PACKET_QUEUED: u64 = 1;
 
+// What a run may write: packets, their bytes together, and console bytes.
 const SENT_LIMIT: usize = 64;
 
 const SENT_BYTES_LIMIT: u64 = 65_536;
 
+const CONSOLE_LIMIT: u64 = 4096;
+
 /// Whether the packets together have at most so many bytes.
-fn fits(packets: &[Bytes], room: u64) -> bool
+fn fits(packets: &[Packet], room: u64) -> bool
     ensures { result ≡ nat_le (sum_by length packets.now) room }
 {
     match packets {
         [] => true,
         [first, rest @ ..] => {
-            let size = first.as_slice().len() as u64;
+            let size = first.bytes().len() as u64;
             size <= room && fits(rest, room - size)
         }
     }
 }
 
-/// Writes bytes into memory from an address on.
-fn write_bytes(written: &mut BTreeMap<u64, u8>, at: u64, bytes: &[u8]) -> Result<(), AllocError>
-    requires { at + length bytes.now ≤ 2 ^ 64 }
-    ensures { OnOk result ((loaded : ℕ → ℕ) → memory_over loaded written.new
-        ≡ with_bytes at bytes.now (memory_over loaded written.old)) }
-{
-    for (i, byte) in bytes.iter().enumerate() {
-        written.insert(at + i as u64, *byte)?;
-    }
-    Ok(())
-}
+impl<'a> PlainMachine<'a> {
+    ghost use Rattle.machine_model.specs.Hypercall as model;
+    ghost use Rattle.machine_model.specs.Machine.{is_writable, range_passes};
+    ghost use Rattle.plain_machine.specs.PlainMachine.{machine_of};
+    ghost use Rattle.plain_machine.specs.Turn.{ComesTo};
 
-impl PlainMachine<'_> {
-    ghost use Rattle.machine_model.specs.Hypercall.{call, answered, can_send, delivered, sends, received, receives, Done};
-    ghost use Rattle.machine_model.specs.Run.{turn_called};
-    ghost use Rattle.plain_machine.specs.PlainMachine.{machine_of, memory_of};
-    ghost use Rattle.plain_machine.specs.Turn.{turn_to};
-
-    /// Does the call at which the machine stands.
-    pub fn call(&mut self, alloc: Global) -> Result<Turn, AllocError>
-        ensures { IfOk result (λ turn. (clock : ℕ) →
-            turn_to turn (machine_of self.new) ≡ turn_called (machine_of self.old) (call (machine_of self.old) clock)) }
+    /// Does the hypercall at which the machine stands.
+    pub fn hypercall(&mut self, alloc: Global, clock: u64) -> Result<Turn, AllocError>
+        ensures { let old = machine_of self.old in IfOk result (λ turn.
+            ComesTo turn old (machine_of self.new) (model.outcome old clock)) }
     {
-        let first = self.registers[A0 as usize];
-        let second = self.registers[A1 as usize];
-        match self.registers[A7 as usize] {
-            NET_WRITE => {
-                self.send(alloc, first, second)?;
-                Ok(Turn::Goes)
-            }
-            NET_READ => {
-                self.receive(first, second)?;
-                Ok(Turn::Goes)
-            }
-            HALT => {
-                self.pc = self.pc.wrapping_add(4);
-                Ok(Turn::Ends(Stop::Halt { code: first }))
-            }
-            number => Ok(Turn::Refuses(Stop::Fault {
-                cause: ENVIRONMENT_CALL,
-                pc: self.pc,
-                tval: number,
-            })),
+        let first = self.register(A0);
+        let second = self.register(A1);
+        match self.register(A7) {
+            CLOCK_READ => Ok(self.answer(clock)),
+            CONSOLE_WRITE => self.write_console(alloc, first, second),
+            WAIT => Ok(self.wait()),
+            NET_WRITE => self.write_packet(alloc, first, second),
+            NET_READ => self.read_packet(first, second),
+            HALT => Ok(self.halt(first)),
+            number => Ok(self.raise(ENVIRONMENT_CALL, number)),
         }
     }
 
-    /// Goes behind the call, with its result.
-    fn answer(&mut self, result_code: u64)
-        ensures { machine_of self.new ≡ answered result_code (machine_of self.old) }
+    /// Goes on after the ECALL, with the result in a0.
+    fn answer(&mut self, result_code: u64) -> Turn
+        ensures { let old = machine_of self.old in
+            ComesTo result old (machine_of self.new)
+            (model.Done (model.after_result result_code old)) }
     {
-        self.write_register(A0, result_code);
-        self.pc = self.pc.wrapping_add(4);
+        self.set_register(A0, result_code);
+        self.advance();
+        Turn::Goes
     }
 
-    /// Whether a packet may be written.
-    fn can_send(&self, at: u64, size: u64) -> bool
-        ensures { result ≡ can_send (machine_of self.now) at size }
+    /// Ends the program with this code.
+    fn halt(&mut self, code: u64) -> Turn
+        ensures { let old = machine_of self.old in
+            ComesTo result old (machine_of self.new) (model.Halts code (model.after_call old)) }
     {
-        size <= PACKET_LIMIT
+        self.advance();
+        Turn::Ends(Stop::Halt { code })
+    }
+
+    /// Waits for a packet, unless one is queued.
+    fn wait(&mut self) -> Turn
+        ensures { let old = machine_of self.old in
+            ComesTo result old (machine_of self.new) (model.waits old old.queue) }
+    {
+        if !self.queue.is_empty() {
+            return self.answer(PACKET_QUEUED);
+        }
+        self.advance();
+        self.hart.resting = true;
+        Turn::Ends(Stop::Rest)
+    }
+
+    /// Whether so many bytes from `at` on may be written to the console.
+    fn fits_console(&self, at: u64, size: u64) -> bool
+        ensures { result ≡ model.fits_console (machine_of self.now) at size }
+    {
+        size <= CONSOLE_LIMIT
+            && self.console.len() as u64 + size <= CONSOLE_LIMIT
+            && self.memory.range_allows(Access::Read, at, size)
+    }
+
+    /// Writes bytes to the console.
+    fn write_console(&mut self, alloc: Global, at: u64, size: u64) -> Result<Turn, AllocError>
+        ensures { let old = machine_of self.old in IfOk result (λ turn.
+            ComesTo turn old (machine_of self.new) (model.console_writes old at size)) }
+    {
+        if !self.fits_console(at, size) {
+            return Ok(self.answer(INVALID));
+        }
+        let bytes = self.memory.read_bytes(alloc, at, size)?;
+        self.console.extend_from_slice(&bytes)?;
+        Ok(self.answer(OK))
+    }
+
+    /// Whether a packet of so many bytes from `at` on may be written.
+    fn fits_net(&self, at: u64, size: u64) -> bool
+        ensures { result ≡ model.fits_net (machine_of self.now) at size }
+    {
+        size <= PACKET_LIMIT as u64
             && self.sent.len() < SENT_LIMIT
             && fits(&self.sent, SENT_BYTES_LIMIT - size)
-            && self.permits(Permission::Read, at, size)
-    }
-
-    /// The bytes of memory from an address on.
-    fn bytes(&self, alloc: Global, at: u64, size: u64) -> Result<Vec<u8>, AllocError>
-        requires { at + size ≤ 2 ^ 64 }
-        ensures { IfOk result (λ bytes. bytes.items ≡ bytes_at (memory_of self.now) at size) }
-    {
-        let mut bytes = Vec::new(alloc);
-        for i in 0..size {
-            bytes.push(self.byte(at + i))?;
-        }
-        Ok(bytes)
+            && self.memory.range_allows(Access::Read, at, size)
     }
 
     /// Writes a packet.
-    fn send(&mut self, alloc: Global, at: u64, size: u64) -> Result<(), AllocError>
-        ensures { OnOk result (Done (machine_of self.new) ≡ sends (machine_of self.old) at size) }
+    fn write_packet(&mut self, alloc: Global, at: u64, size: u64) -> Result<Turn, AllocError>
+        ensures { let old = machine_of self.old in IfOk result (λ turn.
+            ComesTo turn old (machine_of self.new) (model.net_writes old at size)) }
     {
-        if !self.can_send(at, size) {
-            self.answer(INVALID);
-            return Ok(());
+        if !self.fits_net(at, size) {
+            return Ok(self.answer(INVALID));
         }
-        let packet = self.bytes(alloc, at, size)?;
-        self.deliver(packet)
-    }
-
-    /// Adds a packet to those that were written.
-    fn deliver(&mut self, packet: Vec<u8>) -> Result<(), AllocError>
-        ensures { OnOk result (machine_of self.new ≡ delivered (machine_of self.old) packet.items) }
-    {
-        self.sent.push(Bytes::from_vec(packet))?;
-        self.answer(OK);
-        Ok(())
-    }
-
-    /// Reads a packet.
-    fn receive(&mut self, at: u64, room: u64) -> Result<(), AllocError>
-        ensures { OnOk result (Done (machine_of self.new) ≡ receives (machine_of self.old) at room (machine_of self.old).queue) }
-    {
-        let Some((packet, rest)) = self.queue.split_first() else {
-            self.answer(AGAIN);
-            return Ok(());
+        let bytes = self.memory.read_bytes(alloc, at, size)?;
+        let Some(packet) = Packet::new(bytes) else {
+            unreachable!();
         };
-        let bytes = packet.as_slice();
-        let size = bytes.len() as u64;
-        if size > room || !self.permits(Permission::Write, at, size) {
-            self.answer(INVALID);
-            return Ok(());
-        }
-        self.queue = rest;
-        self.take(at, bytes)
+        self.sent.push(packet)?;
+        Ok(self.answer(OK))
     }
 
-    /// Writes a packet that was taken from the queue into memory.
-    fn take(&mut self, at: u64, packet: &[u8]) -> Result<(), AllocError>
-        requires { at + length packet.now ≤ 2 ^ 64 }
-        ensures { OnOk result (machine_of self.new ≡ received (machine_of self.old) at packet.now (machine_of self.old).queue) }
+    /// Reads the next packet that is queued.
+    fn read_packet(&mut self, at: u64, room: u64) -> Result<Turn, AllocError>
+        ensures { let old = machine_of self.old in IfOk result (λ turn.
+            ComesTo turn old (machine_of self.new) (model.net_reads old at room old.queue)) }
     {
-        write_bytes(&mut self.written, at, packet)?;
-        self.answer(OK);
-        self.write_register(A1, packet.len() as u64);
-        Ok(())
+        match self.queue {
+            [] => Ok(self.answer(AGAIN)),
+            [packet, rest @ ..] => self.receive(at, room, packet.bytes(), rest),
+        }
+    }
+
+    /// Whether a packet may be read to `at`, where there is so much room.
+    fn fits_room(&self, at: u64, room: u64, packet: &[u8]) -> bool
+        ensures { result ≡ (nat_le (length packet.now) room
+            && range_passes (is_writable (machine_of self.now)) at (length packet.now)) }
+    {
+        let size = packet.len() as u64;
+        size <= room && self.memory.range_allows(Access::Write, at, size)
+    }
+
+    /// Reads this packet, after which the rest of the queue comes.
+    fn receive(
+        &mut self,
+        at: u64,
+        room: u64,
+        packet: &[u8],
+        rest: &'a [Packet],
+    ) -> Result<Turn, AllocError>
+        ensures { let old = machine_of self.old in IfOk result (λ turn.
+            ComesTo turn old (machine_of self.new)
+            (model.net_reads old at room (packet.now ∷ rest.now))) }
+    {
+        if !self.fits_room(at, room, packet) {
+            return Ok(self.answer(INVALID));
+        }
+        self.memory.write_bytes(at, packet)?;
+        self.queue = rest;
+        self.set_register(A0, OK);
+        self.set_register(A1, packet.len() as u64);
+        self.advance();
+        Ok(Turn::Goes)
     }
 }

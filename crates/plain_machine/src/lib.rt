@@ -3,10 +3,12 @@
 #![tactic(auto)]
 
 mod hypercall;
+mod image_memory;
 mod instruction;
 mod machine;
 mod memory;
 mod running;
+mod values;
 
 pub use running::{Reply, run};
 

@@ -1,38 +1,33 @@
-//! The plain machine's state: its memory, and its registers.
+//! The plain machine's state: its hardware thread, its memory, and its packets and console.
 
-ghost use Rattle.std.specs.Prelude.{◌≡◌, ◌<◌, MatchOption, true, false};
+ghost use Rattle.std.specs.Prelude.{◌≡◌, ℕ, ◌+◌, ◌%◌, ◌^◌, ◌<◌};
 
-use crate::memory::{Permission, STACK_END, loaded_byte, range_permits};
-use machine_model::{Bytes, Image, Segment, Stop};
+use crate::image_memory::{ImageMemory, STACK_END};
+use crate::memory::PlainMemory;
+use image_model::{Image, start_has_bytes, start_has_permissions};
+use machine_model::{Hart, Packet, REGISTERS, Stop};
 use std::alloc::Global;
-use std::collections::BTreeMap;
 
-const REGISTERS: usize = 32;
+/// The stack pointer.
+const SP: u8 = 2;
 
-const STACK_POINTER: usize = 2;
-
-/// Where a program that waited finds that a packet is there.
-const WAIT_RESULT: usize = 10;
+/// The bytes of an instruction.
+pub const WORD_SIZE: u64 = 4;
 
 /// A machine with its image's segments as they came, and beside them what was written.
 #[derive(Drop)]
 pub struct PlainMachine<'a> {
-    pub segments: &'a [Segment],
-    /// The size of the stack in bytes.
-    pub stack: u64,
-    pub registers: [u64; REGISTERS],
-    pub pc: u64,
-    pub resting: bool,
-    /// The bytes that were written, by their addresses.
-    pub written: BTreeMap<u64, u8>,
-    /// The packets that weren't read yet.
-    pub queue: &'a [Bytes],
-    pub sent: Vec<Bytes>,
+    pub hart: Hart,
+    pub memory: PlainMemory<'a>,
+    /// The packets that weren't read yet, the next one first.
+    pub queue: &'a [Packet],
+    /// The packets that were written, the oldest first.
+    pub sent: Vec<Packet>,
     pub console: Vec<u8>,
 }
 
 /// What a turn came to.
-#[derive(Clone, Copy, Debug, PartialEq, Eq)]
+#[derive(Clone, Copy)]
 pub enum Turn {
     /// The instruction is done, and the run goes on.
     Goes,
@@ -43,86 +38,83 @@ pub enum Turn {
 }
 
 impl<'a> PlainMachine<'a> {
+    ghost use Rattle.image_model.specs.StartOf.{start_of};
     ghost use Rattle.machine_model.specs.Loaded.{loaded};
-    ghost use Rattle.machine_model.specs.Machine.{permits, with_register};
+    ghost use Rattle.machine_model.specs.Machine.{register, with_register};
     ghost use Rattle.machine_model.specs.Run.{give};
-    ghost use Rattle.machine_model.specs.Instruction.{can_fetch, fetched};
-    ghost use Rattle.plain_machine.specs.Permission.{grants};
-    ghost use Rattle.plain_machine.specs.PlainMachine.{machine_of, memory_of};
+    ghost use Rattle.machine_model.specs.Run as model;
+    ghost use Rattle.machine_model.specs.declared.stop.Stop.TheVariants.{Exception};
+    ghost use Rattle.plain_machine.specs.PlainMachine.{machine_of};
+    ghost use Rattle.plain_machine.specs.Turn.{turn_to};
 
-    /// The machine before the image's first instruction.
-    pub fn load(alloc: Global, image: &'a Image, stack: u64) -> PlainMachine<'a>
-        ensures { machine_of result ≡ loaded image.now stack }
+    /// The machine before the image's first instruction, with these packets queued.
+    pub fn new(
+        alloc: Global,
+        image: &'a Image,
+        stack: u64,
+        packets: &'a [Packet],
+    ) -> PlainMachine<'a>
+        requires { image.now.entry % 4 ≡ 0 }
+        ensures { machine_of result ≡ give (loaded (start_of image.now stack)) packets.now }
     {
-        let mut registers = [0; REGISTERS];
-        registers[STACK_POINTER] = STACK_END;
-        PlainMachine {
-            segments: image.segments.as_slice(),
-            stack,
-            registers,
+        // These calls do nothing: their contracts are the laws that the clause rests on.
+        start_has_permissions();
+        start_has_bytes();
+        let mut hart = Hart {
+            x: [0; REGISTERS],
             pc: image.entry,
             resting: false,
-            written: BTreeMap::new(alloc),
-            queue: &[],
+        };
+        hart.set_register(SP, STACK_END);
+        let image_memory = ImageMemory {
+            segments: image.segments.as_slice(),
+            stack,
+        };
+        PlainMachine {
+            hart,
+            memory: PlainMemory::new(alloc, image_memory),
+            queue: packets,
             sent: Vec::new(alloc),
             console: Vec::new(alloc),
         }
     }
 
-    /// Queues packets for the next run, which has written nothing yet.
-    pub fn give(&mut self, alloc: Global, packets: &'a [Bytes])
-        ensures { machine_of self.new ≡ give (machine_of self.old) packets.now }
+    /// The word in a register, 0 to 31.
+    pub fn register(&self, number: u8) -> u64
+        requires { number < 32 }
+        ensures { result ≡ register (machine_of self.now) number }
     {
-        if !packets.is_empty() && self.resting {
-            self.registers[WAIT_RESULT] = 1;
-            self.resting = false;
-        }
-        self.queue = packets;
-        self.sent = Vec::new(alloc);
-        self.console = Vec::new(alloc);
+        self.hart.register(number)
     }
 
-    /// The byte at an address.
-    pub fn byte(&self, a: u64) -> u8
-        ensures { result ≡ memory_of self.now a }
+    /// Writes a register, 0 to 31. A write of x0 is lost.
+    pub fn set_register(&mut self, number: u8, value: u64)
+        requires { number < 32 }
+        ensures { machine_of self.new ≡ record (machine_of self.old) {
+          registers = with_register number value (machine_of self.old).registers;
+        } }
     {
-        match self.written.get(&a) {
-            Some(byte) => *byte,
-            None => loaded_byte(self.segments, a),
-        }
+        self.hart.set_register(number, value);
     }
 
-    /// Whether each of `size` bytes from `at` on may be accessed so.
-    pub fn permits(&self, permission: Permission, at: u64, size: u64) -> bool
-        ensures { result ≡ permits (grants permission) (machine_of self.now).regions at size }
+    /// Goes on to the next instruction in a row.
+    pub fn advance(&mut self)
+        ensures { machine_of self.new ≡ record (machine_of self.old) {
+          pc = ((machine_of self.old).pc + 4) % 2 ^ 64;
+        } }
     {
-        range_permits(permission, self.segments, self.stack, at, size)
+        self.hart.pc = self.hart.pc.wrapping_add(WORD_SIZE);
     }
 
-    /// The word at the program counter, or none where it isn't on an executable page.
-    pub fn fetch(&self) -> Option<u32>
-        ensures { MatchOption result (can_fetch (machine_of self.now) ≡ false)
-            (λ w. (can_fetch (machine_of self.now) ≡ true) × (w ≡ fetched (machine_of self.now))) }
+    /// The turn of an instruction that raises an exception: the machine stays as it is.
+    pub fn raise(&self, cause: u64, tval: u64) -> Turn
+        ensures { turn_to result (machine_of self.now)
+            ≡ model.Stops (Exception cause (machine_of self.now).pc tval) 0 (machine_of self.now) }
     {
-        if !self.permits(Permission::Execute, self.pc, 4) {
-            return None;
-        }
-        let at = self.pc;
-        Some(u32::from_le_bytes([
-            self.byte(at),
-            self.byte(at + 1),
-            self.byte(at + 2),
-            self.byte(at + 3),
-        ]))
-    }
-
-    /// Writes a register. A write of x0 is lost.
-    pub fn write_register(&mut self, register: u8, value: u64)
-        requires { register < 32 }
-        ensures { self.new ≡ record self.old { registers = with_register register value self.old.registers } }
-    {
-        if register != 0 {
-            self.registers[register as usize] = value;
-        }
+        Turn::Refuses(Stop::Exception {
+            cause,
+            pc: self.hart.pc,
+            tval,
+        })
     }
 }

@@ -1,158 +1,160 @@
-//! An image's memory before anything was written: which bytes may be accessed, and
-//! what stands there.
+//! Memory as a program sees it: the bytes that it wrote over those of its image. Addresses are
+//! words: after the last comes 0.
 
-ghost use Rattle.std.specs.Prelude.{◌≡◌, ◌+◌, ◌&&◌, ◌||◌, map};
-ghost use Rattle.std.specs.List.{list_any};
-ghost use Rattle.machine_model.specs.Machine.{contains, permits_byte, permits};
-ghost use Rattle.machine_model.specs.Loaded as model;
-ghost use Rattle.plain_machine.specs.Permission.{grants};
+ghost use Rattle.std.specs.Prelude.{◌≡◌, ℕ, ◌*◌, ◌^◌, ◌<◌, ◌≤◌, ◌||◌, ◌==◌, if◌then◌else◌};
+ghost use Rattle.std.specs.Prelude.{length, OnOk, IfOk};
+ghost use Rattle.image_model.specs.Pages.{page_of};
+ghost use Rattle.machine_model.specs.Loaded.{no_page};
+ghost use Rattle.machine_model.specs.Machine as model;
+ghost use Rattle.machine_model.specs.Machine.{bytes_at, with_bytes, low_bytes, with_written};
+ghost use Rattle.plain_machine.specs.ImageMemory.{address_allows, image_byte};
+ghost use Rattle.plain_machine.specs.PlainMemory.{bytes_of, permissions_of, pages_of};
 
-use machine_model::Segment;
+use crate::image_memory::{Access, ImageMemory, PAGE_SIZE};
+use std::alloc::{AllocError, Global};
+use std::collections::{BTreeMap, BTreeSet};
 
-const PAGE: u128 = 4096;
-
-/// The address behind the stack.
-pub const STACK_END: u64 = 1 << 38;
-
-/// What may be asked of a byte of memory.
-#[derive(Clone, Copy, Debug, PartialEq, Eq)]
-pub enum Permission {
-    Read,
-    Write,
-    Execute,
+/// An image's memory, and beside it what was written.
+#[derive(Drop)]
+pub struct PlainMemory<'a> {
+    image: ImageMemory<'a>,
+    /// The bytes that were written, by their addresses.
+    written: BTreeMap<u64, u8>,
+    /// The pages that hold them.
+    pages: BTreeSet<u64>,
 }
 
-fn page_start(a: u128) -> u128
-    ensures { result ≡ model.page_start a }
+/// The lesser of an address and another, if there is another.
+fn lesser(other: Option<u64>, a: u64) -> u64
+    ensures { Some result ≡ model.lesser other (Some a) }
 {
-    a / PAGE * PAGE
-}
-
-/// Whether the segment's flags give the permission. What may be written may be read.
-fn has_permission(permission: Permission, segment: &Segment) -> bool
-    ensures { result ≡ grants permission (model.segment_region segment.now) }
-{
-    match permission {
-        Permission::Read => segment.flags / 4 % 2 == 1 || segment.flags / 2 % 2 == 1,
-        Permission::Write => segment.flags / 2 % 2 == 1,
-        Permission::Execute => segment.flags % 2 == 1,
+    match other {
+        Some(b) => b.min(a),
+        None => a,
     }
 }
 
-/// Whether the address is on a page that the segment touches.
-fn touches(segment: &Segment, a: u64) -> bool
-    ensures { result ≡ contains (model.segment_region segment.now) a }
-{
-    let a = u128::from(a);
-    let start = page_start(u128::from(segment.at));
-    let end = page_start(u128::from(segment.at) + u128::from(segment.size) + (PAGE - 1));
-    start <= a && a < end
-}
-
-fn segment_permits(permission: Permission, segment: &Segment, a: u64) -> bool
-    ensures { result ≡ (grants permission (model.segment_region segment.now) && contains (model.segment_region segment.now) a) }
-{
-    has_permission(permission, segment) && touches(segment, a)
-}
-
-fn some_segment_permits(permission: Permission, segments: &[Segment], a: u64) -> bool
-    ensures { result ≡ list_any (λ r. grants permission r && contains r a) (map model.segment_region segments.now) }
-{
-    match segments {
-        [] => false,
-        [first, rest @ ..] => {
-            segment_permits(permission, first, a) || some_segment_permits(permission, rest, a)
+impl<'a> PlainMemory<'a> {
+    /// The image's memory, where nothing was written.
+    pub fn new(alloc: Global, image: ImageMemory<'a>) -> PlainMemory<'a>
+        ensures image { result.image ≡ image.entry }
+        ensures bytes { (a : ℕ) → bytes_of result a ≡ image_byte image.entry a }
+        ensures pages { (page : ℕ) → pages_of result page ≡ no_page page }
+    {
+        PlainMemory {
+            image,
+            written: BTreeMap::new(alloc),
+            pages: BTreeSet::new(alloc),
         }
     }
-}
 
-fn stack_permits(permission: Permission, stack: u64, a: u64) -> bool
-    ensures { result ≡ (grants permission (model.stack_region stack) && contains (model.stack_region stack) a) }
-{
-    let granted = match permission {
-        Permission::Read | Permission::Write => true,
-        Permission::Execute => false,
-    };
-    granted && STACK_END.saturating_sub(stack) <= a && a < STACK_END
-}
-
-/// Whether a byte may be accessed so.
-fn byte_permits(permission: Permission, segments: &[Segment], stack: u64, a: u64) -> bool
-    ensures { result ≡ permits_byte (grants permission) (model.regions_of segments.now stack) a }
-{
-    some_segment_permits(permission, segments, a) || stack_permits(permission, stack, a)
-}
-
-/// Whether the byte `offset` bytes behind `at` may be accessed so.
-fn offset_permits(
-    permission: Permission,
-    segments: &[Segment],
-    stack: u64,
-    at: u64,
-    offset: u64,
-) -> bool
-    ensures { result ≡ permits_byte (grants permission) (model.regions_of segments.now stack) (at + offset) }
-{
-    match at.checked_add(offset) {
-        Some(a) => byte_permits(permission, segments, stack, a),
-        None => false,
-    }
-}
-
-/// Whether each of `size` bytes from `at` on may be accessed so.
-pub fn range_permits(
-    permission: Permission,
-    segments: &[Segment],
-    stack: u64,
-    at: u64,
-    size: u64,
-) -> bool
-    ensures { result ≡ permits (grants permission) (model.regions_of segments.now stack) at size }
-{
-    for i in 0..size {
-        if !offset_permits(permission, segments, stack, at, i) {
-            return false;
+    /// The byte at the address.
+    fn byte(&self, a: u64) -> u8
+        ensures { result ≡ bytes_of self.now a }
+    {
+        match self.written.get(&a) {
+            Some(byte) => *byte,
+            None => self.image.byte(a),
         }
     }
-    true
-}
 
-fn is_mapped(segments: &[Segment], a: u64) -> bool
-    ensures { result ≡ model.is_mapped segments.now a }
-{
-    match segments {
-        [] => false,
-        [first, rest @ ..] => {
-            let mapped = has_permission(Permission::Read, first)
-                || has_permission(Permission::Execute, first);
-            mapped && touches(first, a) || is_mapped(rest, a)
-        }
+    /// Whether the address allows the access.
+    fn allows(&self, access: Access, a: u64) -> bool
+        ensures { result ≡ address_allows access (permissions_of self.now) a }
+    {
+        self.image.permission(a / PAGE_SIZE).allows(access)
     }
-}
 
-fn file_byte(segments: &[Segment], a: u64) -> u8
-    ensures { result ≡ model.file_byte segments.now a }
-{
-    match segments {
-        [] => 0,
-        [first, rest @ ..] => {
-            let bytes = first.bytes.as_slice();
-            if first.at <= a && a - first.at < bytes.len() as u64 {
-                bytes[(a - first.at) as usize]
-            } else {
-                file_byte(rest, a)
+    /// Whether each of `size` addresses from `at` on allows the access.
+    pub fn range_allows(&self, access: Access, at: u64, size: u64) -> bool
+        ensures { result
+            ≡ model.range_passes (address_allows access (permissions_of self.now)) at size }
+    {
+        for i in 0..size {
+            if !self.allows(access, at.wrapping_add(i)) {
+                return false;
             }
         }
+        true
     }
-}
 
-/// The byte at an address before anything was written.
-pub fn loaded_byte(segments: &[Segment], a: u64) -> u8
-    ensures { result ≡ model.loaded_byte segments.now a }
-{
-    if is_mapped(segments, a) {
-        file_byte(segments, a)
-    } else {
-        0
+    /// The least of `size` addresses from `at` on that doesn't allow the access.
+    pub fn least_failing(&self, access: Access, at: u64, size: u64) -> Option<u64>
+        ensures { result
+            ≡ model.least_failing (address_allows access (permissions_of self.now)) at size }
+    {
+        let mut least = None;
+        for i in 0..size {
+            let a = at.wrapping_add(i);
+            if !self.allows(access, a) {
+                least = Some(lesser(least, a));
+            }
+        }
+        least
+    }
+
+    /// `size` bytes from `at` on.
+    pub fn read_bytes(&self, alloc: Global, at: u64, size: u64) -> Result<Vec<u8>, AllocError>
+        ensures items { IfOk result (λ bytes. bytes.items ≡ bytes_at (bytes_of self.now) at size) }
+        ensures len { IfOk result (λ bytes. length bytes.items ≡ size) }
+    {
+        let mut bytes = Vec::new(alloc);
+        for i in 0..size {
+            bytes.push(self.byte(at.wrapping_add(i)))?;
+        }
+        Ok(bytes)
+    }
+
+    /// The number that `size` bytes from `at` on spell, the lowest byte first.
+    pub fn read_number(&self, at: u64, size: u64) -> u64
+        requires { size ≤ 8 }
+        ensures value { result ≡ model.little_endian (bytes_at (bytes_of self.now) at size) }
+        ensures below { result < 2 ^ (8 * size) }
+    {
+        let mut number = 0;
+        for i in 0..size {
+            number += u64::from(self.byte(at.wrapping_add(i))) << (8 * i);
+        }
+        number
+    }
+
+    /// Writes the byte at an address.
+    fn write_byte(&mut self, a: u64, byte: u8) -> Result<(), AllocError>
+        ensures bytes { OnOk result ((b : ℕ) →
+            bytes_of self.new b ≡ (if b == a then byte else bytes_of self.old b)) }
+        ensures pages { OnOk result ((page : ℕ) →
+            pages_of self.new page ≡ (pages_of self.old page || page == page_of a)) }
+        ensures image { self.new.image ≡ self.old.image }
+    {
+        self.written.insert(a, byte)?;
+        self.pages.insert(a / PAGE_SIZE)?;
+        Ok(())
+    }
+
+    /// Writes bytes from `at` on.
+    pub fn write_bytes(&mut self, at: u64, bytes: &[u8]) -> Result<(), AllocError>
+        ensures bytes { OnOk result (
+            bytes_of self.new ≡ with_bytes at bytes.now (bytes_of self.old)) }
+        ensures pages { OnOk result (
+            pages_of self.new ≡ with_written at (length bytes.now) (pages_of self.old)) }
+        ensures image { self.new.image ≡ self.old.image }
+    {
+        for (i, byte) in bytes.iter().enumerate() {
+            self.write_byte(at.wrapping_add(i as u64), *byte)?;
+        }
+        Ok(())
+    }
+
+    /// Writes the `size` lowest bytes of a number from `at` on, the lowest first.
+    pub fn write_number(&mut self, at: u64, value: u64, size: u64) -> Result<(), AllocError>
+        requires { size ≤ 8 }
+        ensures bytes { OnOk result (
+            bytes_of self.new ≡ with_bytes at (low_bytes size value) (bytes_of self.old)) }
+        ensures pages { OnOk result (let bytes = low_bytes size value in
+            pages_of self.new ≡ with_written at (length bytes) (pages_of self.old)) }
+        ensures image { self.new.image ≡ self.old.image }
+    {
+        let bytes = value.to_le_bytes();
+        self.write_bytes(at, &bytes[..size as usize])
     }
 }

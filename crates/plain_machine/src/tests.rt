@@ -1,71 +1,70 @@
-//! Small programs, whose words an assembler made. What each of them does was worked out
-//! by hand from the instructions' and the calls' descriptions.
+//! Small programs, whose words an assembler made. What each of them does was worked out by hand
+//! from the descriptions of the instructions and the hypercalls.
+ghost use Rattle.std.specs.Prelude.{◌≡◌, ◌%◌, IfOk};
+
+mod table;
+
 use super::*;
-use machine_model::{Bytes, Image, Segment, Segments, Stop};
+use image_model::{Bytes, Image, Segment, Segments};
+use machine_model::{Packet, Stop};
 use std::alloc::{AllocError, Global};
 use std::test::Fail;
 
-/// Where each program begins, and its one page ends.
+/// Where each program begins. Its words stand on one page.
 const START: u64 = 0x1_0000;
 
-const END: u64 = 0x1_1000;
+/// A page that may be read and written.
+const DATA: u64 = 0x2_0000;
 
-/// More instructions than any of them takes.
-const BUDGET: u64 = 10_000;
+const PAGE: u64 = 4096;
 
-/// Flags of a page: all of them.
-const ALL: u32 = 7;
+const STACK: u64 = 65_536;
+
+/// What the clock shows.
+const CLOCK: u64 = 1_700_000_000_123_456_789;
+
+/// More instructions than any of the programs takes.
+const BUDGET: u64 = 100_000_000;
+
+// Flags of a segment.
+const RW: u32 = 6;
+
+const RWX: u32 = 7;
 
 /// Reads a packet of at most 1,024 bytes to 0x10100 and writes it from there, with the size
 /// that a1 has then. Ends with code 0.
-const ECHO: [u32; 12] = [
-    0x0010_0413, // addi s0, zero, 1
-    0x0104_1413, // slli s0, s0, 16
-    0x1004_0513, // addi a0, s0, 256
-    0x4000_0593, // addi a1, zero, 1024
-    0x0070_0893, // addi a7, zero, 7
-    0x0000_0073, // ecall
-    0x1004_0513, // addi a0, s0, 256
-    0x0060_0893, // addi a7, zero, 6
-    0x0000_0073, // ecall
-    0x0000_0513, // addi a0, zero, 0
-    0x0080_0893, // addi a7, zero, 8
-    0x0000_0073, // ecall
-];
+const ECHO: &str = "00100413 01041413 10040513 40000593 00700893 00000073 10040513 00600893 \
+                    00000073 00000513 00800893 00000073";
 
-/// Reads a packet where there is room for 1 byte, and then where there is room for 2.
-/// Writes it, and ends with the first read's result.
-const SMALL_ROOM: [u32; 16] = [
-    0x0010_0413, // addi s0, zero, 1
-    0x0104_1413, // slli s0, s0, 16
-    0x1004_0513, // addi a0, s0, 256
-    0x0010_0593, // addi a1, zero, 1
-    0x0070_0893, // addi a7, zero, 7
-    0x0000_0073, // ecall
-    0x0005_0493, // addi s1, a0, 0
-    0x1004_0513, // addi a0, s0, 256
-    0x0020_0593, // addi a1, zero, 2
-    0x0000_0073, // ecall
-    0x1004_0513, // addi a0, s0, 256
-    0x0060_0893, // addi a7, zero, 6
-    0x0000_0073, // ecall
-    0x0004_8513, // addi a0, s1, 0
-    0x0080_0893, // addi a7, zero, 8
-    0x0000_0073, // ecall
-];
+/// Adds up the first bytes of the packets, and answers each packet with the low byte of the sum,
+/// until it waits.
+const COUNT: &str = "00020437 00043023 00300893 00000073 01040513 04000593 00700893 00000073 \
+                     00043283 01044303 006282b3 00543023 00040513 00100593 00600893 00000073 \
+                     fc9ff06f";
 
-/// An image of one segment, the words from its start on.
-fn image_of(alloc: Global, words: &[u32], flags: u32) -> Result<Image, AllocError> {
+/// Writes the two bytes after it to the console.
+const HELLO: &str = "00000517 01c50513 00200593 00200893 00000073 00800893 00000073 00006968";
+
+/// An image with these words on its first page, whose flags these are.
+fn image_of(alloc: Global, flags: u32, words: &str) -> Result<Image, Fail>
+    ensures { IfOk result (λ image. image.entry % 4 ≡ 0) }
+{
     let mut bytes = Vec::new(alloc);
-    for word in words {
-        bytes.extend_from_slice(&word.to_le_bytes())?;
+    for word in words.split(' ') {
+        bytes.extend_from_slice(&u32::from_str_radix(word, 16)?.to_le_bytes())?;
     }
     let mut segments = Vec::new(alloc);
     segments.push(Segment {
         at: START,
         flags,
-        size: bytes.len() as u64,
+        size: PAGE,
         bytes: Bytes::from_vec(bytes),
+    })?;
+    segments.push(Segment {
+        at: DATA,
+        flags: RW,
+        size: PAGE,
+        bytes: Bytes::from_vec(Vec::new(alloc)),
     })?;
     Ok(Image {
         entry: START,
@@ -73,49 +72,87 @@ fn image_of(alloc: Global, words: &[u32], flags: u32) -> Result<Image, AllocErro
     })
 }
 
-/// The reply of words that are given this packet, or none.
-fn reply_of(
-    alloc: Global,
-    words: &[u32],
-    flags: u32,
-    packet: Option<&[u8]>,
-    trigger: Option<u64>,
-    budget: u64,
-) -> Result<Reply, AllocError> {
-    let image = image_of(alloc, words, flags)?;
+/// The packet of these bytes, or none, or an empty one.
+fn packets_of(alloc: Global, text: &str) -> Result<Vec<Packet>, Fail> {
     let mut packets = Vec::new(alloc);
-    if let Some(bytes) = packet {
-        packets.push(Bytes::from_vec(bytes.to_vec(alloc)?))?;
+    if text == "none" {
+        return Ok(packets);
     }
-    run(alloc, &image, 4096, packets.as_slice(), trigger, budget)
+    let mut bytes = Vec::new(alloc);
+    if text != "empty" {
+        for byte in text.split(' ') {
+            bytes.push(u8::from_str_radix(byte, 16)?)?;
+        }
+    }
+    packets.push(Packet::new(bytes).ok_or("too long")?)?;
+    Ok(packets)
 }
 
-// The flags of the page, the packet that comes in, and the one that is written.
-#[test]
-fn writes_what_it_read(rt: HostRuntime) -> Result<(), Fail> {
-    let alloc = rt.alloc();
-    let two = [1, 2];
-    let zeros = [0; 1024];
-    for (flags, packet, want) in [
-        (ALL, Some(two.as_slice()), Some(two.as_slice())),
-        (ALL, Some(&[]), Some(&[])),
-        // None is queued: the size stays as it was.
-        (ALL, None, Some(zeros.as_slice())),
-        // What may be written may be read.
-        (3, Some(two.as_slice()), Some(two.as_slice())),
-        // It may be read alone: the read of the packet is refused.
-        (5, Some(two.as_slice()), Some(zeros.as_slice())),
-        // It may be neither read nor written: both calls are refused.
-        (1, Some(two.as_slice()), None),
-    ] {
-        let reply = reply_of(alloc, &ECHO, flags, packet, None, BUDGET)?;
-        assert_eq!(rt; (reply.stop, reply.number), (Stop::Halt { code: 0 }, 12));
-        assert_eq!(rt; reply.console.len(), 0);
-        let written = reply.packets.as_slice();
-        assert_eq!(rt; written.len(), usize::from(want.is_some()));
-        for (bytes, want) in written.iter().zip(want) {
-            assert_eq!(rt; bytes.as_slice(), want, "{flags}");
+/// The reply of a program that is given this packet, or none.
+fn reply_of(
+    alloc: Global,
+    flags: u32,
+    words: &str,
+    packet: &str,
+    trigger: Option<u64>,
+    budget: u64,
+) -> Result<Reply, Fail> {
+    let image = image_of(alloc, flags, words)?;
+    let packets = packets_of(alloc, packet)?;
+    Ok(run(
+        alloc,
+        &image,
+        STACK,
+        packets.as_slice(),
+        CLOCK,
+        trigger,
+        budget,
+    )?)
+}
+
+/// How a run ended, as a line of the table says it.
+fn end_of(alloc: Global, reply: &Reply) -> Result<String, AllocError> {
+    let stop = match reply.stop {
+        Stop::Trigger => String::from_str(alloc, "trigger")?,
+        Stop::Budget => String::from_str(alloc, "budget")?,
+        Stop::Exception { cause, pc, tval } => {
+            format!(in alloc; "exception {cause} {pc:x} {tval:x}")?
         }
+        Stop::Rest => String::from_str(alloc, "rest")?,
+        Stop::Halt { code } => format!(in alloc; "halt {code:x}")?,
+    };
+    let packets = reply.packets.len();
+    let mut size = 0_usize;
+    for packet in &reply.packets {
+        size = size.saturating_add(packet.bytes().len());
+    }
+    let console = reply.console.len();
+    format!(in alloc; "{stop} | {} {packets} {size} {console}", reply.number)
+}
+
+#[test]
+fn programs_end_as_worked_out(rt: HostRuntime) -> Result<(), Fail> {
+    let alloc = rt.alloc();
+    for row in table::ROWS.lines() {
+        if row.starts_with('#') {
+            continue;
+        }
+        let (given, rest) = row.split_once(" | ").ok_or("no words")?;
+        let (words, end) = rest.split_once(" | ").ok_or("no end")?;
+        let (flags, packet) = given.split_once(' ').ok_or("no packet")?;
+        let image = image_of(alloc, flags.parse()?, words)?;
+        let packets = packets_of(alloc, packet)?;
+        let reply = run(
+            alloc,
+            &image,
+            STACK,
+            packets.as_slice(),
+            CLOCK,
+            None,
+            BUDGET,
+        )?;
+        let found = end_of(alloc, &reply)?;
+        assert_eq!(rt; found.as_str(), end, "{words}");
     }
     Ok(())
 }
@@ -123,7 +160,6 @@ fn writes_what_it_read(rt: HostRuntime) -> Result<(), Fail> {
 // The trigger, the budget, and where the run stops.
 #[test]
 fn stops_at_its_limits(rt: HostRuntime) -> Result<(), Fail> {
-    let alloc = rt.alloc();
     for (trigger, budget, stop, number) in [
         (Some(START + 8), BUDGET, Stop::Trigger, 2),
         (None, 3, Stop::Budget, 3),
@@ -135,62 +171,25 @@ fn stops_at_its_limits(rt: HostRuntime) -> Result<(), Fail> {
         (None, 11, Stop::Budget, 11),
         (None, 12, Stop::Halt { code: 0 }, 12),
     ] {
-        let reply = reply_of(alloc, &ECHO, ALL, None, trigger, budget)?;
+        let reply = reply_of(rt.alloc(), RWX, ECHO, "none", trigger, budget)?;
         assert_eq!(rt; (reply.stop, reply.number), (stop, number));
     }
     Ok(())
 }
 
 #[test]
-fn faults_name_their_instruction(rt: HostRuntime) -> Result<(), Fail> {
+fn writes_bytes_of_memory(rt: HostRuntime) -> Result<(), Fail> {
     let alloc = rt.alloc();
-    let up_to_the_end = vec![in alloc; 0x13; 1024]?;
-    for (words, flags, cause, pc, tval, number) in [
-        // A word that is no instruction.
-        ([0x0010_0413, 0].as_slice(), ALL, 2, START + 4, 0, 1),
-        // addi a7, zero, 99; ecall
-        (&[0x0630_0893, 0x0000_0073], ALL, 8, START + 4, 99, 1),
-        // Past the last page, and on a page that isn't executable.
-        (up_to_the_end.as_slice(), ALL, 12, END, END, 1024),
-        (&ECHO, 6, 12, START, START, 0),
-    ] {
-        let reply = reply_of(alloc, words, flags, None, None, BUDGET)?;
-        assert_eq!(rt; reply.stop, Stop::Fault { cause, pc, tval });
-        assert_eq!(rt; reply.number, number);
+    let reply = reply_of(alloc, RWX, HELLO, "none", None, BUDGET)?;
+    assert_eq!(rt; (reply.stop, reply.number), (Stop::Halt { code: 0 }, 7));
+    assert_eq!(rt; reply.console.as_slice(), b"hi".as_slice());
+    for (packet, sum) in [("05", [5]), ("empty", [0])] {
+        let reply = reply_of(alloc, RWX, COUNT, packet, None, BUDGET)?;
+        assert_eq!(rt; (reply.stop, reply.number), (Stop::Rest, 19));
+        assert_eq!(rt; reply.packets.len(), 1);
+        for packet in &reply.packets {
+            assert_eq!(rt; packet.bytes(), sum.as_slice());
+        }
     }
-    Ok(())
-}
-
-// An instruction after a0 was made -9, and the code with which the program ends then.
-#[test]
-fn operations_on_minus_nine(rt: HostRuntime) -> Result<(), Fail> {
-    let alloc = rt.alloc();
-    for (word, code) in [
-        (0xffe5_0513, 0xffff_ffff_ffff_fff5), // addi a0, a0, -2
-        (0xff85_2513, 1), // slti a0, a0, -8
-        (0x0085_3513, 0), // sltiu a0, a0, 8
-        (0x0555_4513, 0xffff_ffff_ffff_ffa2), // xori a0, a0, 85
-        (0x00f5_6513, 0xffff_ffff_ffff_ffff), // ori a0, a0, 15
-        (0x01f5_7513, 23), // andi a0, a0, 31
-        (0x03c5_1513, 0x7000_0000_0000_0000), // slli a0, a0, 60
-        (0x03c5_5513, 15), // srli a0, a0, 60
-        (0x4025_5513, 0xffff_ffff_ffff_fffd), // srai a0, a0, 2
-        (0x0000_0513, 0), // addi a0, zero, 0
-    ] {
-        // addi a0, zero, -9; addi zero, zero, 5; the word; addi a7, zero, 8; ecall
-        let words = [0xff70_0513, 0x0050_0013, word, 0x0080_0893, 0x0000_0073];
-        let reply = reply_of(alloc, &words, ALL, None, None, BUDGET)?;
-        assert_eq!(rt; (reply.stop, reply.number), (Stop::Halt { code }, 5));
-    }
-    Ok(())
-}
-
-#[test]
-fn a_refused_packet_stays(rt: HostRuntime) -> Result<(), Fail> {
-    let alloc = rt.alloc();
-    let reply = reply_of(alloc, &SMALL_ROOM, ALL, Some(&[1, 2]), None, BUDGET)?;
-    assert_eq!(rt; (reply.stop, reply.number), (Stop::Halt { code: 2 }, 16));
-    assert_eq!(rt; reply.packets.len(), 1);
-    assert_eq!(rt; reply.packets[0].as_slice(), [1, 2].as_slice());
     Ok(())
 }

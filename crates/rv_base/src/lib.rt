@@ -1,7 +1,7 @@
 //! The arithmetic of RV64IM on words, as total functions: RISC-V unprivileged manual,
 //! "RV64I Base Integer Instruction Set" and "M Extension for Integer Multiplication
 //! and Division". Each function is proved to give the value of the definition of its
-//! name in `machine_model`.
+//! name in `instruction_model`.
 #![tactic(auto)]
 
 mod low;

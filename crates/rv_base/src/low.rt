@@ -2,9 +2,10 @@
 //! Computational Instructions" of RV64I and "M Extension for Integer Multiplication
 //! and Division"). Each extends its 32-bit result by that result's sign.
 ghost use Rattle.std.specs.Prelude.{◌≡◌};
-ghost use Rattle.machine_model.specs.Word as word;
+ghost use Rattle.instruction_model.specs.Word as word;
 
 // The low 32 bits.
+/// The low 32 bits.
 fn low(a: u64) -> u32
     ensures { result ≡ word.low a }
 {
@@ -12,6 +13,7 @@ fn low(a: u64) -> u32
 }
 
 // The low 32 bits, read as signed.
+/// The low 32 bits, read as a signed number.
 fn signed_low(a: u64) -> i32
     ensures { result ≡ word.signed_low a }
 {
@@ -19,6 +21,7 @@ fn signed_low(a: u64) -> i32
 }
 
 // The word of 32 bits, extended by their sign.
+/// A 32-bit number extended by its sign to 64 bits.
 fn sign_extended(a: u32) -> u64
     ensures { result ≡ word.sign_extended a }
 {

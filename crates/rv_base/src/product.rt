@@ -1,7 +1,7 @@
 //! Products of whole words (RISC-V unprivileged manual, "Multiplication Operations").
 ghost use Rattle.std.specs.Prelude.{◌≡◌};
 ghost use Rattle.std.specs.Int.{int_shr};
-ghost use Rattle.machine_model.specs.Word as word;
+ghost use Rattle.instruction_model.specs.Word as word;
 
 /// The low 64 bits of the product.
 #[inline]
@@ -12,6 +12,7 @@ pub fn mul(a: u64, b: u64) -> u64
 }
 
 // The high 64 bits of a product.
+/// The upper 64 bits of a product of 128 bits.
 fn high(product: i128) -> u64
     ensures { result ≡ word.as_word (int_shr product 64) }
 {

@@ -1,7 +1,7 @@
 //! Quotients and remainders of whole words (RISC-V unprivileged manual, "Division
 //! Operations"). Each has a value at every pair of words, a divisor of 0 included.
 ghost use Rattle.std.specs.Prelude.{◌≡◌};
-ghost use Rattle.machine_model.specs.Word as word;
+ghost use Rattle.instruction_model.specs.Word as word;
 
 /// The quotient of `a` and `b`, both read as signed, cut towards 0. It is all ones
 /// where `b` is 0, and the least number where that is divided by -1.

@@ -1,7 +1,7 @@
 //! The operations of RV64I on whole words (RISC-V unprivileged manual, "Integer
 //! Computational Instructions" of RV32I and of RV64I).
 ghost use Rattle.std.specs.Prelude.{◌≡◌};
-ghost use Rattle.machine_model.specs.Word as word;
+ghost use Rattle.instruction_model.specs.Word as word;
 
 /// The sum modulo 2^64.
 #[inline]

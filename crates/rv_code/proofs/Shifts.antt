@@ -1,7 +1,7 @@
 -- Runs of bits by two shifts, and small powers of two.
 use Rattle.std.proofs.Common.{◌≡◌, ℕ, ◌+◌, ◌-◌, ◌*◌, ◌/◌, ◌%◌, ◌^◌, ◌<◌, ◌≤◌, sym, ◌∙◌, ap, arith}
 use Rattle.std.proofs.lemmas.Nat.{field_of, shl-shr, shr-shr, pow_pos, pow_below, pow-add, one_shl}
-use Rattle.machine_model.specs.InstructionWord.{bits}
+use Rattle.instruction_model.specs.InstructionWord.{bits}
 
 -- k places up and k + low places down leave the m bits from low on
 run : (w k m low n : ℕ) → (m + low) + k ≡ n → w * 2 ^ k % 2 ^ n / 2 ^ k / 2 ^ low ≡ w / 2 ^ low % 2 ^ m

@@ -1,9 +1,12 @@
 //! From words to instructions.
 
 ghost use Rattle.std.specs.Prelude.{◌≡◌, Some};
-ghost use Rattle.machine_model.proofs.Reading.{reading, i_imm, s_imm, b_offset, j_offset, rd_of, rs1_of, rs2_of, imm_of, imm_w_of, jalr_of, branch_of, load_of, store_of, op_imm_of, op_of, op_imm_w_of, op_w_of, fence_of, system_of};
-ghost use Rattle.machine_model.specs.InstructionWord.{Decodes, IsWordOf};
-ghost use Rattle.machine_model.specs.declared.instruction.Inst.{Inst};
+ghost use Rattle.instruction_model.specs.Reading.{reading, i_imm, s_imm, b_offset, j_offset, rd_of};
+ghost use Rattle.instruction_model.specs.Reading.{rs1_of, rs2_of, imm_of, imm_w_of, jalr_of};
+ghost use Rattle.instruction_model.specs.Reading.{branch_of, load_of, store_of, op_imm_of, op_of};
+ghost use Rattle.instruction_model.specs.Reading.{op_imm_w_of, op_w_of, fence_of, system_of};
+ghost use Rattle.instruction_model.specs.InstructionWord.{Decodes, IsWordOf};
+ghost use Rattle.instruction_model.specs.declared.instruction.Inst.{Inst};
 
 use crate::field::{bits, signed};
 use crate::{ImmOp, ImmWOp, Inst, operation};
@@ -17,6 +20,7 @@ pub fn decode(w: u32) -> Option<Inst>
     by_opcode(w)
 }
 
+/// The instruction of a word, read off its fields.
 fn by_opcode(w: u32) -> Option<Inst>
     ensures { result ≡ reading w }
 {
@@ -49,36 +53,42 @@ fn by_opcode(w: u32) -> Option<Inst>
 
 // ---- the formats' fields
 
+/// The target register, bits 11..7.
 fn rd(w: u32) -> u8
     ensures { result ≡ rd_of w }
 {
     bits(w, 11, 7) as u8
 }
 
+/// The first source register, bits 19..15.
 fn rs1(w: u32) -> u8
     ensures { result ≡ rs1_of w }
 {
     bits(w, 19, 15) as u8
 }
 
+/// The second source register, bits 24..20.
 fn rs2(w: u32) -> u8
     ensures { result ≡ rs2_of w }
 {
     bits(w, 24, 20) as u8
 }
 
+/// An I-type word's immediate, bits 31..20, signed.
 fn i_imm(w: u32) -> i32
     ensures { result ≡ i_imm w }
 {
     signed(bits(w, 31, 20), 12)
 }
 
+/// An S-type word's immediate, bits 31..25 and 11..7, signed.
 fn s_imm(w: u32) -> i32
     ensures { result ≡ s_imm w }
 {
     signed(bits(w, 11, 7) + (bits(w, 31, 25) << 5), 12)
 }
 
+/// A B-type word's offset, bits 31, 7, 30..25 and 11..8, signed and even.
 fn b_offset(w: u32) -> i32
     ensures { result ≡ b_offset w }
 {
@@ -87,6 +97,7 @@ fn b_offset(w: u32) -> i32
     signed(low + high, 13)
 }
 
+/// A J-type word's offset, bits 31, 19..12, 20 and 30..21, signed and even.
 fn j_offset(w: u32) -> i32
     ensures { result ≡ j_offset w }
 {
@@ -97,6 +108,7 @@ fn j_offset(w: u32) -> i32
 
 // ---- one function an opcode
 
+/// The instruction of a word with the opcode JALR, or none where no row fits.
 fn jalr(w: u32) -> Option<Inst>
     ensures { result ≡ jalr_of w }
 {
@@ -110,6 +122,7 @@ fn jalr(w: u32) -> Option<Inst>
     }
 }
 
+/// The instruction of a word with the opcode BRANCH, or none where no row fits.
 fn branch(w: u32) -> Option<Inst>
     ensures { result ≡ branch_of w }
 {
@@ -122,6 +135,7 @@ fn branch(w: u32) -> Option<Inst>
     })
 }
 
+/// The instruction of a word with the opcode LOAD, or none where no row fits.
 fn load(w: u32) -> Option<Inst>
     ensures { result ≡ load_of w }
 {
@@ -134,6 +148,7 @@ fn load(w: u32) -> Option<Inst>
     })
 }
 
+/// The instruction of a word with the opcode STORE, or none where no row fits.
 fn store(w: u32) -> Option<Inst>
     ensures { result ≡ store_of w }
 {
@@ -146,6 +161,7 @@ fn store(w: u32) -> Option<Inst>
     })
 }
 
+/// The instruction of a word with the opcode OP-IMM, or none where no row fits.
 fn op_imm(w: u32) -> Option<Inst>
     ensures { result ≡ op_imm_of w }
 {
@@ -158,15 +174,19 @@ fn op_imm(w: u32) -> Option<Inst>
     })
 }
 
+/// An OP-IMM operation's immediate: a shift's amount, bits 25..20, and else the I-type's.
 fn imm_of(op: ImmOp, w: u32) -> i32
     ensures { result ≡ imm_of op w }
 {
     match op {
         ImmOp::Slli | ImmOp::Srli | ImmOp::Srai => bits(w, 25, 20) as i32,
-        _ => i_imm(w),
+        ImmOp::Addi | ImmOp::Slti | ImmOp::Sltiu | ImmOp::Xori | ImmOp::Ori | ImmOp::Andi => i_imm(
+            w,
+        ),
     }
 }
 
+/// The instruction of a word with the opcode OP, or none where no row fits.
 fn op(w: u32) -> Option<Inst>
     ensures { result ≡ op_of w }
 {
@@ -179,6 +199,7 @@ fn op(w: u32) -> Option<Inst>
     })
 }
 
+/// The instruction of a word with the opcode OP-IMM-32, or none where no row fits.
 fn op_imm_w(w: u32) -> Option<Inst>
     ensures { result ≡ op_imm_w_of w }
 {
@@ -191,15 +212,17 @@ fn op_imm_w(w: u32) -> Option<Inst>
     })
 }
 
+/// An OP-IMM-32 operation's immediate: a shift's amount, bits 24..20, and else the I-type's.
 fn imm_w_of(op: ImmWOp, w: u32) -> i32
     ensures { result ≡ imm_w_of op w }
 {
     match op {
         ImmWOp::Addiw => i_imm(w),
-        _ => bits(w, 24, 20) as i32,
+        ImmWOp::Slliw | ImmWOp::Srliw | ImmWOp::Sraiw => bits(w, 24, 20) as i32,
     }
 }
 
+/// The instruction of a word with the opcode OP-32, or none where no row fits.
 fn op_w(w: u32) -> Option<Inst>
     ensures { result ≡ op_w_of w }
 {
@@ -212,6 +235,7 @@ fn op_w(w: u32) -> Option<Inst>
     })
 }
 
+/// The instruction of a word with the opcode MISC-MEM: a fence, or none.
 fn fence(w: u32) -> Option<Inst>
     ensures { result ≡ fence_of w }
 {
@@ -225,6 +249,7 @@ fn fence(w: u32) -> Option<Inst>
     }
 }
 
+/// The instruction of a word with the opcode SYSTEM: ECALL, EBREAK, or none.
 fn system(w: u32) -> Option<Inst>
     ensures { result ≡ system_of w }
 {

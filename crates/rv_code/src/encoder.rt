@@ -1,8 +1,12 @@
 //! From instructions to words.
 
 ghost use Rattle.std.specs.Prelude.{◌≡◌, ◌<◌, ◌^◌};
-ghost use Rattle.machine_model.specs.InstructionWord.{IsSound, IsWordOf, word_of, bits, r_type, i_type, s_type, b_type, u_type, j_type, imm_field, imm_w_field, IsImm, IsImmW};
-ghost use Rattle.machine_model.specs.declared.instruction.Inst.TheVariants.{Branch, Load, Store, OpImm, Op, OpImmW, OpW};
+ghost use Rattle.instruction_model.specs.InstructionWord.{IsSound, IsWordOf, word_of, bits, r_type};
+ghost use Rattle.instruction_model.specs.InstructionWord.{i_type, s_type, b_type, u_type, j_type};
+ghost use Rattle.instruction_model.specs.InstructionWord.{imm_field, imm_w_field, IsImm, IsImmW};
+ghost use Rattle.instruction_model.specs.declared.instruction.Inst.TheVariants.{Branch, Load};
+ghost use Rattle.instruction_model.specs.declared.instruction.Inst.TheVariants.{Store, OpImm, Op};
+ghost use Rattle.instruction_model.specs.declared.instruction.Inst.TheVariants.{OpImmW, OpW};
 
 use crate::field::{bits, unsigned};
 use crate::{BranchOp, ImmOp, ImmWOp, Inst, LoadOp, RegOp, RegWOp, StoreOp, operation};
@@ -38,6 +42,7 @@ pub fn encode(inst: &Inst) -> u32
 
 // ---- instructions with an operation
 
+/// The word of a branch.
 fn branch(op: BranchOp, rs1: u8, rs2: u8, offset: i32) -> u32
     requires { IsSound (Branch op rs1 rs2 offset) }
     ensures { result ≡ word_of (Branch op rs1 rs2 offset) }
@@ -46,6 +51,7 @@ fn branch(op: BranchOp, rs1: u8, rs2: u8, offset: i32) -> u32
     b_type(0x63, funct3, rs1, rs2, unsigned(offset, 13))
 }
 
+/// The word of a load.
 fn load(op: LoadOp, rd: u8, rs1: u8, imm: i32) -> u32
     requires { IsSound (Load op rd rs1 imm) }
     ensures { result ≡ word_of (Load op rd rs1 imm) }
@@ -54,6 +60,7 @@ fn load(op: LoadOp, rd: u8, rs1: u8, imm: i32) -> u32
     i_type(0x03, rd, funct3, rs1, unsigned(imm, 12))
 }
 
+/// The word of a store.
 fn store(op: StoreOp, rs1: u8, rs2: u8, imm: i32) -> u32
     requires { IsSound (Store op rs1 rs2 imm) }
     ensures { result ≡ word_of (Store op rs1 rs2 imm) }
@@ -62,6 +69,7 @@ fn store(op: StoreOp, rs1: u8, rs2: u8, imm: i32) -> u32
     s_type(0x23, funct3, rs1, rs2, unsigned(imm, 12))
 }
 
+/// The word of an operation on a register and an immediate.
 fn op_imm(op: ImmOp, rd: u8, rs1: u8, imm: i32) -> u32
     requires { IsSound (OpImm op rd rs1 imm) }
     ensures { result ≡ word_of (OpImm op rd rs1 imm) }
@@ -70,6 +78,7 @@ fn op_imm(op: ImmOp, rd: u8, rs1: u8, imm: i32) -> u32
     i_type(0x13, rd, funct3, rs1, imm_field(op, imm))
 }
 
+/// The word of an operation on two registers.
 fn op_reg(op: RegOp, rd: u8, rs1: u8, rs2: u8) -> u32
     requires { IsSound (Op op rd rs1 rs2) }
     ensures { result ≡ word_of (Op op rd rs1 rs2) }
@@ -79,6 +88,7 @@ fn op_reg(op: RegOp, rd: u8, rs1: u8, rs2: u8) -> u32
     r_type(0x33, rd, funct3, rs1, rs2, funct7)
 }
 
+/// The word of an operation on the low 32 bits of a register and an immediate.
 fn op_imm_w(op: ImmWOp, rd: u8, rs1: u8, imm: i32) -> u32
     requires { IsSound (OpImmW op rd rs1 imm) }
     ensures { result ≡ word_of (OpImmW op rd rs1 imm) }
@@ -87,6 +97,7 @@ fn op_imm_w(op: ImmWOp, rd: u8, rs1: u8, imm: i32) -> u32
     i_type(0x1b, rd, funct3, rs1, imm_w_field(op, imm))
 }
 
+/// The word of an operation on the low 32 bits of two registers.
 fn op_reg_w(op: RegWOp, rd: u8, rs1: u8, rs2: u8) -> u32
     requires { IsSound (OpW op rd rs1 rs2) }
     ensures { result ≡ word_of (OpW op rd rs1 rs2) }
@@ -105,7 +116,8 @@ fn imm_field(op: ImmOp, imm: i32) -> u32
     match op {
         ImmOp::Slli | ImmOp::Srli => imm as u32,
         ImmOp::Srai => 0x400 + imm as u32,
-        _ => unsigned(imm, 12),
+        ImmOp::Addi | ImmOp::Slti | ImmOp::Sltiu | ImmOp::Xori | ImmOp::Ori | ImmOp::Andi =>
+            unsigned(imm, 12),
     }
 }
 
@@ -124,6 +136,7 @@ fn imm_w_field(op: ImmWOp, imm: i32) -> u32
 
 // ---- the formats
 
+/// An R-type word of its fields.
 fn r_type(opcode: u32, rd: u8, funct3: u32, rs1: u8, rs2: u8, funct7: u32) -> u32
     requires opcode { opcode < 2 ^ 7 }
     requires rd { rd < 2 ^ 5 }
@@ -141,6 +154,7 @@ fn r_type(opcode: u32, rd: u8, funct3: u32, rs1: u8, rs2: u8, funct7: u32) -> u3
         + (funct7 << 25)
 }
 
+/// An I-type word of its fields; the immediate is its 12-bit form.
 fn i_type(opcode: u32, rd: u8, funct3: u32, rs1: u8, imm: u32) -> u32
     requires opcode { opcode < 2 ^ 7 }
     requires rd { rd < 2 ^ 5 }
@@ -152,6 +166,7 @@ fn i_type(opcode: u32, rd: u8, funct3: u32, rs1: u8, imm: u32) -> u32
     opcode + ((rd as u32) << 7) + (funct3 << 12) + ((rs1 as u32) << 15) + (imm << 20)
 }
 
+/// An S-type word of its fields; the immediate is its 12-bit form.
 fn s_type(opcode: u32, funct3: u32, rs1: u8, rs2: u8, imm: u32) -> u32
     requires opcode { opcode < 2 ^ 7 }
     requires funct3 { funct3 < 2 ^ 3 }
@@ -170,6 +185,7 @@ fn s_type(opcode: u32, funct3: u32, rs1: u8, rs2: u8, imm: u32) -> u32
     )
 }
 
+/// A B-type word of its fields; the offset is its 13-bit form, and even.
 fn b_type(opcode: u32, funct3: u32, rs1: u8, rs2: u8, offset: u32) -> u32
     requires opcode { opcode < 2 ^ 7 }
     requires funct3 { funct3 < 2 ^ 3 }
@@ -182,6 +198,7 @@ fn b_type(opcode: u32, funct3: u32, rs1: u8, rs2: u8, offset: u32) -> u32
     r_type(opcode, low as u8, funct3, rs1, rs2, high)
 }
 
+/// A U-type word of its fields; the immediate is bits 31..12.
 fn u_type(opcode: u32, rd: u8, imm: u32) -> u32
     requires opcode { opcode < 2 ^ 7 }
     requires rd { rd < 2 ^ 5 }
@@ -191,6 +208,7 @@ fn u_type(opcode: u32, rd: u8, imm: u32) -> u32
     opcode + ((rd as u32) << 7) + (imm << 12)
 }
 
+/// A J-type word of its fields; the offset is its 21-bit form, and even.
 fn j_type(opcode: u32, rd: u8, offset: u32) -> u32
     requires opcode { opcode < 2 ^ 7 }
     requires rd { rd < 2 ^ 5 }

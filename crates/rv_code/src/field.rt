@@ -1,9 +1,10 @@
 //! Fields of words: runs of bits, and signed numbers in two's complement.
 
-ghost use Rattle.std.specs.Prelude.{◌≡◌, ◌<◌, ◌≤◌, ◌+◌, ◌-◌, ◌^◌, ◌↔◌, pos, ◌≤ℤ◌, ◌<ℤ◌, ◌-ℤ◌, IsTrue};
-ghost use Rattle.machine_model.proofs.Fields.{signed_field};
-ghost use Rattle.machine_model.specs.InstructionWord.{bits, FitsBits};
-ghost use Rattle.machine_model.specs.Word.{modulo_two_to};
+ghost use Rattle.std.specs.Prelude.{◌≡◌, ◌<◌, ◌≤◌, ◌+◌, ◌-◌, ◌^◌, ◌↔◌, pos, ◌≤ℤ◌, ◌<ℤ◌, ◌-ℤ◌};
+ghost use Rattle.std.specs.Prelude.{IsTrue};
+ghost use Rattle.instruction_model.specs.Word.{signed_field};
+ghost use Rattle.instruction_model.specs.InstructionWord.{bits, FitsBits};
+ghost use Rattle.instruction_model.specs.Word.{modulo_two_to};
 
 /// Bits `high` down to `low` of a word, as a number.
 #[inline]

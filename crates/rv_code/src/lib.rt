@@ -10,7 +10,7 @@ mod sound;
 
 pub use decoder::decode;
 pub use encoder::encode;
-pub use machine_model::{BranchOp, ImmOp, ImmWOp, Inst, LoadOp, RegOp, RegWOp, StoreOp};
+pub use instruction_model::{BranchOp, ImmOp, ImmWOp, Inst, LoadOp, RegOp, RegWOp, StoreOp};
 pub use sound::is_sound;
 
 #[cfg(test)]

@@ -1,8 +1,12 @@
 //! The codes of operations, and the operations of codes.
 
 ghost use Rattle.std.specs.Prelude.{◌≡◌, ◌<◌, ◌^◌};
-ghost use Rattle.machine_model.proofs.Reading.{branch_op, load_op, store_op, imm_op, base_op, multiply_op, other_op, reg_op, imm_w_op, base_w_op, multiply_w_op, other_w_op, reg_w_op};
-ghost use Rattle.machine_model.specs.InstructionWord.{branch_funct3, load_funct3, store_funct3, imm_funct3, reg_funct3, reg_funct7, imm_w_funct3, reg_w_funct3, reg_w_funct7};
+ghost use Rattle.instruction_model.specs.Reading.{branch_op, load_op, store_op, imm_op, base_op};
+ghost use Rattle.instruction_model.specs.Reading.{multiply_op, other_op, reg_op, imm_w_op};
+ghost use Rattle.instruction_model.specs.Reading.{base_w_op, multiply_w_op, other_w_op, reg_w_op};
+ghost use Rattle.instruction_model.specs.InstructionWord.{branch_funct3, load_funct3, store_funct3};
+ghost use Rattle.instruction_model.specs.InstructionWord.{imm_funct3, reg_funct3, reg_funct7};
+ghost use Rattle.instruction_model.specs.InstructionWord.{imm_w_funct3, reg_w_funct3, reg_w_funct7};
 
 use crate::{BranchOp, ImmOp, ImmWOp, LoadOp, RegOp, RegWOp, StoreOp};
 
@@ -81,6 +85,7 @@ pub(crate) fn reg_op(funct3: u32, funct7: u32) -> Option<RegOp>
     }
 }
 
+/// The operation of the base set, funct7 0, or none.
 fn base_op(funct3: u32) -> Option<RegOp>
     ensures { result ≡ base_op funct3 }
 {
@@ -97,6 +102,7 @@ fn base_op(funct3: u32) -> Option<RegOp>
     }
 }
 
+/// The operation of the M extension, funct7 1.
 fn multiply_op(funct3: u32) -> Option<RegOp>
     ensures { result ≡ multiply_op funct3 }
 {
@@ -113,6 +119,7 @@ fn multiply_op(funct3: u32) -> Option<RegOp>
     }
 }
 
+/// The operation with funct7 32, SUB or SRA, or none.
 fn other_op(funct3: u32) -> Option<RegOp>
     ensures { result ≡ other_op funct3 }
 {
@@ -149,6 +156,7 @@ pub(crate) fn reg_w_op(funct3: u32, funct7: u32) -> Option<RegWOp>
     }
 }
 
+/// The W operation of the base set, funct7 0, or none.
 fn base_w_op(funct3: u32) -> Option<RegWOp>
     ensures { result ≡ base_w_op funct3 }
 {
@@ -160,6 +168,7 @@ fn base_w_op(funct3: u32) -> Option<RegWOp>
     }
 }
 
+/// The W operation of the M extension, funct7 1, or none.
 fn multiply_w_op(funct3: u32) -> Option<RegWOp>
     ensures { result ≡ multiply_w_op funct3 }
 {
@@ -173,6 +182,7 @@ fn multiply_w_op(funct3: u32) -> Option<RegWOp>
     }
 }
 
+/// The W operation with funct7 32, SUBW or SRAW, or none.
 fn other_w_op(funct3: u32) -> Option<RegWOp>
     ensures { result ≡ other_w_op funct3 }
 {

@@ -1,7 +1,8 @@
 //! Whether the fields of an instruction are in their ranges.
 
 ghost use Rattle.std.specs.Prelude.{◌<◌, ◌↔◌, IsTrue};
-ghost use Rattle.machine_model.specs.InstructionWord.{IsSound, IsRegister, FitsBits, IsOffset, IsImm, IsImmW};
+ghost use Rattle.instruction_model.specs.InstructionWord.{IsSound, IsRegister, FitsBits, IsOffset};
+ghost use Rattle.instruction_model.specs.InstructionWord.{IsImm, IsImmW};
 
 use crate::field::is_within;
 use crate::{ImmOp, ImmWOp, Inst};
@@ -36,44 +37,52 @@ pub fn is_sound(inst: &Inst) -> bool
     }
 }
 
+/// Whether it is a register, 0 to 31.
 fn is_register(r: u8) -> bool
     ensures { IsTrue result ↔ IsRegister r }
 {
     r < 32
 }
 
+/// Whether it has a form of 12 bits, -2,048 to 2,047.
 fn is_imm(imm: i32) -> bool
     ensures { IsTrue result ↔ FitsBits 12 imm }
 {
     is_within(imm, 1 << 11)
 }
 
+/// Whether it is a branch's offset: even, -4,096 to 4,094.
 fn is_branch_offset(offset: i32) -> bool
     ensures { IsTrue result ↔ IsOffset 13 offset }
 {
     is_within(offset, 1 << 12) && offset % 2 == 0
 }
 
+/// Whether it is a jump's offset: even, -1,048,576 to 1,048,574.
 fn is_jump_offset(offset: i32) -> bool
     ensures { IsTrue result ↔ IsOffset 21 offset }
 {
     is_within(offset, 1 << 20) && offset % 2 == 0
 }
 
+/// Whether it is the operation's immediate: a shift's is 0 to 63, and else of 12 bits.
 fn is_op_imm(op: ImmOp, imm: i32) -> bool
     ensures { IsTrue result ↔ IsImm op imm }
 {
     match op {
         ImmOp::Slli | ImmOp::Srli | ImmOp::Srai => 0 <= imm && imm < 64,
-        _ => is_imm(imm),
+        ImmOp::Addi | ImmOp::Slti | ImmOp::Sltiu | ImmOp::Xori | ImmOp::Ori | ImmOp::Andi => is_imm(
+            imm,
+        ),
     }
 }
 
+/// Whether it is the operation's immediate: a shift's is 0 to 31, and else of 12 bits.
 fn is_op_imm_w(op: ImmWOp, imm: i32) -> bool
     ensures { IsTrue result ↔ IsImmW op imm }
 {
     match op {
         ImmWOp::Addiw => is_imm(imm),
-        _ => 0 <= imm && imm < 32,
+        ImmWOp::Slliw | ImmWOp::Srliw | ImmWOp::Sraiw => 0 <= imm && imm < 32,
     }
 }

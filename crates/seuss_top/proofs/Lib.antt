@@ -1,2 +1,3 @@
-pub mod Refusals
+pub mod Ends
+pub mod Files
 pub mod Told

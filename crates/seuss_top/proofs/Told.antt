@@ -4,7 +4,7 @@ use Rattle.std.proofs.lemmas.Slice.Eq.{bytes_eq-Decides}
 use Rattle.std.specs.Cmp.Lexicographic.{pointwise}
 use Rattle.std.specs.Global.{Global}
 use Rattle.std.specs.Prelude.{String, string_bytes}
-use Rattle.seuss_top.specs.Words.{texts}
+use Rattle.seuss_top.specs.Arguments.{texts}
 
 -- what holds of the bytes holds of those that are told
 pub of_told : (o : Option (List ℕ)) (bytes : List ℕ) (P : List ℕ → Type 0) → IfSome o (λ told. bytes ≡ told) → P bytes → IfSome o P

@@ -1,2 +1,8 @@
-pub mod Outcome
-pub mod Words
+pub mod Arguments
+pub mod Call
+pub mod Command
+pub mod Ending
+pub mod ImageLine
+pub mod Outside
+pub mod Refusals
+pub mod ReplyLine

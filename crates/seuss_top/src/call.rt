@@ -1,75 +1,98 @@
-//! `call IMAGE`: the image runs once, with the source's bytes as one packet.
+//! `call IMAGE`: the image of a file runs once, with the source's bytes as one packet.
 
-ghost use Rattle.std.specs.Prelude.{◌≡◌, ℕ, ◌≤◌, [], List, length, string_bytes, Some, IfOk, IfErr, OnOk, IfSome};
-ghost use Rattle.edge_io.specs.Faults.{Rose};
-ghost use Rattle.elf64.specs.Form.{HasForm, image_of};
+ghost use Rattle.std.specs.Prelude.{◌≡◌, ◌≢◌, ℕ, ◌+◌, ◌%◌, ◌<◌, ◌≤◌, [], List, length, drop};
+ghost use Rattle.std.specs.Prelude.{string_bytes, Some, Ok, Err, IsOk, IfOk, IfErr, OnOk, IfSome};
+ghost use Rattle.std.specs.Prelude.{MatchResult};
+ghost use Rattle.edge_io.specs.Content.{Keeps, TakesAtMost};
+ghost use Rattle.edge_io.specs.Faults.{Rises};
+ghost use Rattle.elf64.specs.Elf.{elf};
 ghost use Rattle.machine_model.specs.Hypercall.{packet_limit};
-ghost use Rattle.seuss_top.specs.Outcome.{Answers, HasCause, IsProgramRefusal, IsPacketRefusal, IsRunLine};
-ghost use Rattle.seuss_top.specs.Words.{texts};
+ghost use Rattle.seuss_top.specs.Call as spec;
+ghost use Rattle.seuss_top.specs.Ending as ending;
+ghost use Rattle.seuss_top.specs.Outside.{outside, seen, no_sink};
 
 use crate::refusal::Refusal;
 use crate::reply::reply_line;
-use crate::words::image_name;
-use edge_io::{FileFault, Files, ReadFault, Source, read_all};
-use elf64::{ElfFault, read_image};
-use machine_model::{Bytes, Image};
+use edge_io::{FileFault, Files, ReadFault, Sink, Source, read_all, write_all};
+use elf64::{ElfFault, Image, ImageFault, entry_is_sound, read_image};
+use machine_model::{PACKET_LIMIT, Packet};
 use std::alloc::Global;
 
 /// The most bytes of a file that is read.
 const FILE_LIMIT: u64 = 16_777_216;
 
-/// The most bytes of a packet.
-const PACKET_LIMIT: usize = 32_768;
-
-/// What an image runs with: its stack in bytes, and its budget of instructions.
+/// An image runs with a stack of so many bytes, and with a budget of so many instructions.
 const STACK: u64 = 65_536;
 
 const BUDGET: u64 = 100_000_000;
 
-/// The image of a file.
+/// The image of the file of a name.
 fn read_program<F: Files>(alloc: Global, files: &mut F, name: &str) -> Result<Image, Refusal>
-    ensures ok { IfOk result (λ image. (bytes : List ℕ) × HasForm bytes × (image ≡ image_of bytes)
-        × IfSome (F.file files.old name.now) (λ told. bytes ≡ told)) }
-    ensures err { IfErr result (IsProgramRefusal (F.file files.old name.now) (Rose (F.faults files.old) (F.faults files.new))) }
+    ensures image { IfOk result (λ image. (bytes : List ℕ) × (elf bytes ≡ Ok image)
+        × IfSome (F.contents files.old) (λ file_of. file_of name.now ≡ Some bytes)) }
+    ensures aligned { IfOk result (λ image. image.entry % 4 ≡ 0) }
+    ensures refused { IfErr result (spec.RefusesProgram (F.contents files.old) name.now (Rises
+        (F.faults files.old) (F.faults files.new))) }
+    ensures kept { F.contents files.new ≡ F.contents files.old }
+    ensures counted { result ≢ Err Refusal.File → F.faults files.new ≡ F.faults files.old }
+    ensures monotone { F.faults files.old ≤ F.faults files.new }
 {
     let bytes = match files.read_file(alloc, name, FILE_LIMIT) {
         Ok(bytes) => bytes,
         Err(FileFault::Failed) => return Err(Refusal::File),
-        Err(FileFault::TooBig) => return Err(Refusal::Image(ElfFault::Form)),
+        Err(FileFault::TooBig) => return Err(Refusal::Image(ImageFault {
+            fault: ElfFault::TooBig,
+        })),
         Err(FileFault::Memory) => return Err(Refusal::Memory),
     };
-    match read_image(alloc, &bytes) {
+    program(alloc, &bytes)
+}
+
+/// The image of a file's bytes. Its entry is a multiple of 4, as each image's is.
+fn program(alloc: Global, bytes: &[u8]) -> Result<Image, Refusal>
+    ensures image { IfOk result (λ image. elf bytes.now ≡ Ok image) }
+    ensures aligned { IfOk result (λ image. image.entry % 4 ≡ 0) }
+    ensures refused { IfErr result (spec.RefusesBytes bytes.now) }
+{
+    entry_is_sound();
+    match read_image(alloc, bytes) {
         Ok(image) => Ok(image),
-        Err(ElfFault::Short) => Err(Refusal::Image(ElfFault::Short)),
-        Err(ElfFault::Form) => Err(Refusal::Image(ElfFault::Form)),
-        Err(ElfFault::Memory) => Err(Refusal::Memory),
+        Err(fault) => match ImageFault::of(fault) {
+            Some(fault) => Err(Refusal::Image(fault)),
+            None => Err(Refusal::Memory),
+        },
     }
 }
 
 /// The source's bytes, as a packet.
-fn read_packet<S: Source>(alloc: Global, source: &mut S) -> Result<Bytes, Refusal>
-    ensures ok { IfOk result (λ packet. length packet ≤ packet_limit) }
-    ensures told { IfOk result (λ packet. IfSome (S.remaining source.old)
-        (λ told. (packet ≡ told) × (S.remaining source.new ≡ Some []))) }
-    ensures err { IfErr result (IsPacketRefusal (S.remaining source.old) (Rose (S.faults source.old) (S.faults source.new))) }
+fn read_packet<S: Source>(alloc: Global, source: &mut S) -> Result<Packet, Refusal>
+    ensures packet { IfOk result (λ packet. (length packet ≤ packet_limit)
+        × IfSome (S.remaining source.old) (λ left. (left ≡ packet)
+        × (S.remaining source.new ≡ Some []))) }
+    ensures refused { IfErr result (spec.RefusesPacket (S.remaining source.old)
+        (S.remaining source.new) (Rises (S.faults source.old) (S.faults source.new))) }
+    ensures counted { result ≢ Err Refusal.Read → S.faults source.new ≡ S.faults source.old }
+    ensures monotone { S.faults source.old ≤ S.faults source.new }
 {
-    match read_all(alloc, source, PACKET_LIMIT) {
-        Ok(bytes) => Ok(Bytes::from_vec(bytes)),
-        Err(ReadFault::Failed) => Err(Refusal::Read),
-        Err(ReadFault::TooLong) => Err(Refusal::Size),
-        Err(ReadFault::Memory) => Err(Refusal::Memory),
-    }
+    let bytes = match read_all(alloc, source, PACKET_LIMIT) {
+        Ok(bytes) => bytes,
+        Err(ReadFault::Failed) => return Err(Refusal::Read),
+        Err(ReadFault::TooLong) => return Err(Refusal::Size),
+        Err(ReadFault::Memory) => return Err(Refusal::Memory),
+    };
+    Packet::new(bytes).ok_or(Refusal::Size)
 }
 
 /// The line of the image's run on the packet.
-fn run_line(alloc: Global, image: &Image, packet: Bytes) -> Result<String, Refusal>
-    ensures ok { IfOk result (λ line. IsRunLine image.now packet (string_bytes line)) }
-    ensures err { IfErr result (λ refusal. refusal ≡ Refusal.Memory) }
+fn run_line(alloc: Global, image: &Image, packet: Packet) -> Result<String, Refusal>
+    requires { image.now.entry % 4 ≡ 0 }
+    ensures line { IfOk result (λ line. spec.IsRunLine image.now packet (string_bytes line)) }
+    ensures refused { IfErr result (λ refusal. refusal ≡ Refusal.Memory) }
 {
     let Ok(packets) = vec![in alloc; packet] else {
         return Err(Refusal::Memory);
     };
-    let Ok(reply) = plain_machine::run(alloc, image, STACK, &packets, None, BUDGET) else {
+    let Ok(reply) = plain_machine::run(alloc, image, STACK, &packets, 0, None, BUDGET) else {
         return Err(Refusal::Memory);
     };
     match reply_line(alloc, &reply) {
@@ -78,22 +101,60 @@ fn run_line(alloc: Global, image: &Image, packet: Bytes) -> Result<String, Refus
     }
 }
 
-/// The line that answers the command.
-pub fn answer<F: Files, S: Source>(
+/// The line that answers the command. Nothing is written yet.
+fn answer<F: Files, S: Source>(
     alloc: Global,
-    words: &[String],
+    name: &str,
     files: &mut F,
     source: &mut S,
 ) -> Result<String, Refusal>
-    ensures ok { IfOk result (λ line. Answers (texts words.now) (F.file files.old) (S.remaining source.old) (string_bytes line)) }
-    ensures read { OnOk result (IfSome (S.remaining source.old) (λ told. S.remaining source.new ≡ Some [])) }
-    ensures err { IfErr result (HasCause (texts words.now) (F.file files.old) (S.remaining source.old)
-        (Rose (F.faults files.old) (F.faults files.new)) (Rose (S.faults source.old) (S.faults source.new)) ⊥) }
+    ensures line { IfOk result (λ line. spec.IsCallLine (F.contents files.old)
+        (S.remaining source.old) name.now (string_bytes line)) }
+    ensures read { OnOk result (spec.IsRead (S.remaining source.old) (S.remaining source.new)) }
+    ensures refused { IfErr result (spec.Refuses (outside
+        (seen (F.contents files.old) (F.contents files.new) (F.faults files.old)
+        (F.faults files.new))
+        (seen (S.remaining source.old) (S.remaining source.new) (S.faults source.old)
+        (S.faults source.new))
+        no_sink) name.now) }
+    ensures keeps { ending.Keeps (outside
+        (seen (F.contents files.old) (F.contents files.new) (F.faults files.old)
+        (F.faults files.new))
+        (seen (S.remaining source.old) (S.remaining source.new) (S.faults source.old)
+        (S.faults source.new))
+        no_sink) result }
 {
-    let Some(name) = image_name(words) else {
-        return Err(Refusal::Words);
-    };
     let image = read_program(alloc, files, name)?;
     let packet = read_packet(alloc, source)?;
     run_line(alloc, &image, packet)
+}
+
+/// Runs the image of the file of a name on the source's bytes, and writes the line of its run.
+pub fn call<F: Files, S: Source, K: Sink>(
+    alloc: Global,
+    name: &str,
+    files: &mut F,
+    source: &mut S,
+    sink: &mut K,
+) -> Result<(), Refusal>
+    ensures ends { spec.CallDoes (outside
+        (seen (F.contents files.old) (F.contents files.new) (F.faults files.old)
+        (F.faults files.new))
+        (seen (S.remaining source.old) (S.remaining source.new) (S.faults source.old)
+        (S.faults source.new))
+        (seen (K.contents sink.old) (K.contents sink.new) (K.faults sink.old)
+        (K.faults sink.new))) name.now result }
+    ensures keeps { ending.Keeps (outside
+        (seen (F.contents files.old) (F.contents files.new) (F.faults files.old)
+        (F.faults files.new))
+        (seen (S.remaining source.old) (S.remaining source.new) (S.faults source.old)
+        (S.faults source.new))
+        (seen (K.contents sink.old) (K.contents sink.new) (K.faults sink.old)
+        (K.faults sink.new))) result }
+{
+    let line = answer(alloc, name, files, source)?;
+    match write_all(sink, line.as_bytes()) {
+        Ok(()) => Ok(()),
+        Err(_) => Err(Refusal::Write),
+    }
 }

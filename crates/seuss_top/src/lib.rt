@@ -1,13 +1,13 @@
-//! The program's commands over whatever files, source and sinks it is given.
+//! The program's commands, over whatever files, source and sinks it is given.
 #![tactic(auto)]
 
+mod arguments;
 mod call;
 mod command;
 mod refusal;
 mod reply;
-mod words;
 
-pub use command::{Plain, Status, report, run_plain};
+pub use command::{Command, Plain, Status, report, run_plain};
 pub use refusal::Refusal;
 
 #[cfg(test)]

@@ -7,23 +7,63 @@ use std::alloc::{AllocError, Global};
 use std::process::Abort;
 use std::test::Fail;
 
-/// A program that takes a packet of up to 1,024 bytes, sends it back and halts with 0: twelve
-/// instructions behind a file header of 64 bytes and a program header of 56.
-const ECHO: [u8; 168] = [
-    0x7f, 0x45, 0x4c, 0x46, 0x02, 0x01, 0x01, 0x00, 0x00, 0x00, 0x00, 0x00, 0x00, 0x00, 0x00, 0x00,
-    0x02, 0x00, 0xf3, 0x00, 0x01, 0x00, 0x00, 0x00, 0x00, 0x00, 0x01, 0x00, 0x00, 0x00, 0x00, 0x00,
-    0x40, 0x00, 0x00, 0x00, 0x00, 0x00, 0x00, 0x00, 0x00, 0x00, 0x00, 0x00, 0x00, 0x00, 0x00, 0x00,
-    0x00, 0x00, 0x00, 0x00, 0x40, 0x00, 0x38, 0x00, 0x01, 0x00, 0x00, 0x00, 0x00, 0x00, 0x00, 0x00,
-    0x01, 0x00, 0x00, 0x00, 0x07, 0x00, 0x00, 0x00, 0x78, 0x00, 0x00, 0x00, 0x00, 0x00, 0x00, 0x00,
-    0x00, 0x00, 0x01, 0x00, 0x00, 0x00, 0x00, 0x00, 0x00, 0x00, 0x01, 0x00, 0x00, 0x00, 0x00, 0x00,
-    0x30, 0x00, 0x00, 0x00, 0x00, 0x00, 0x00, 0x00, 0x00, 0x10, 0x00, 0x00, 0x00, 0x00, 0x00, 0x00,
-    0x01, 0x00, 0x00, 0x00, 0x00, 0x00, 0x00, 0x00, 0x13, 0x04, 0x10, 0x00, 0x13, 0x14, 0x04, 0x01,
-    0x13, 0x05, 0x04, 0x10, 0x93, 0x05, 0x00, 0x40, 0x93, 0x08, 0x70, 0x00, 0x73, 0x00, 0x00, 0x00,
-    0x13, 0x05, 0x04, 0x10, 0x93, 0x08, 0x60, 0x00, 0x73, 0x00, 0x00, 0x00, 0x13, 0x05, 0x00, 0x00,
-    0x93, 0x08, 0x80, 0x00, 0x73, 0x00, 0x00, 0x00,
+/// Takes a packet of up to 1,024 bytes, sends it back and halts with 0.
+const ECHO: [u32; 12] = [
+    0x0010_0413,
+    0x0104_1413,
+    0x1004_0513,
+    0x4000_0593,
+    0x0070_0893,
+    0x0000_0073,
+    0x1004_0513,
+    0x0060_0893,
+    0x0000_0073,
+    0x0000_0513,
+    0x0080_0893,
+    0x0000_0073,
 ];
 
-/// The command's words.
+/// An ELF file of one segment of these words, at 0x10000 with this size in memory, that may be
+/// read, written and executed.
+fn image_file(alloc: Global, words: &[u32], memory: u32) -> Result<Vec<u8>, AllocError> {
+    let mut file = Vec::new(alloc);
+    file.extend_from_slice(b"\x7fELF\x02\x01\x01\0\0\0\0\0\0\0\0\0")?;
+    let file_bytes = words.len().min(12) as u32 * 4;
+    let header = [
+        0x00f3_0002,
+        1,
+        0x10000,
+        0,
+        64,
+        0,
+        0,
+        0,
+        0,
+        0x0038_0040,
+        1,
+        0,
+        1,
+        7,
+        120,
+        0,
+        0x10000,
+        0,
+        0x10000,
+        0,
+        file_bytes,
+        0,
+        memory,
+        0,
+        1,
+        0,
+    ];
+    for word in header.iter().chain(words.iter()) {
+        file.extend_from_slice(&word.to_le_bytes())?;
+    }
+    Ok(file)
+}
+
+/// The arguments of the command.
 const CALL: [&str; 2] = ["call", "echo.elf"];
 
 /// Of files, source, sink and reports the call that fails, counted from 1; 0 is none.
@@ -63,10 +103,10 @@ fn in_memory(
     })
 }
 
-fn run(alloc: Global, words: &[&str], world: &mut World) -> Result<Status, AllocError> {
+fn run(alloc: Global, arguments: &[&str], world: &mut World) -> Result<Status, AllocError> {
     let mut texts = Vec::new(alloc);
-    for word in words {
-        texts.push(String::from_str(alloc, word)?)?;
+    for argument in arguments {
+        texts.push(String::from_str(alloc, argument)?)?;
     }
     let Plain::Done(status) = run_plain(
         alloc,
@@ -81,48 +121,54 @@ fn run(alloc: Global, words: &[&str], world: &mut World) -> Result<Status, Alloc
 
 fn check<R: Abort + AllocGlobal>(
     rt: &R,
-    words: &[&str],
+    arguments: &[&str],
     world: &mut World,
     (status, written, said): Outcome,
 ) -> Result<(), AllocError> {
-    let got = run(rt.alloc(), words, world)?;
-    assert_eq!(rt; got, status, "{words:?} {written}{said}");
+    let got = run(rt.alloc(), arguments, world)?;
+    assert_eq!(rt; got, status, "{arguments:?} {written}{said}");
     assert_eq!(rt; world.sink.as_slice(), written.as_bytes());
     assert_eq!(rt; world.errs.as_slice(), said.as_bytes());
     Ok(())
 }
 
+/// The world of the echo program and this packet.
+fn echo(alloc: Global, packet: &[u8], failing: Failing) -> Result<World, AllocError> {
+    in_memory(alloc, &image_file(alloc, &ECHO, 0x1000)?, packet, failing)
+}
+
 #[test]
 fn writes_the_line_of_a_run(rt: HostRuntime) -> Result<(), Fail> {
-    let mut two = in_memory(rt.alloc(), &ECHO, &[1, 2], NONE)?;
+    let mut two = echo(rt.alloc(), &[1, 2], NONE)?;
     check(&rt, &CALL, &mut two, (0, "halt:0 12 0102 -\n", ""))?;
     assert_eq!(rt; two.source.left().len(), 0);
-    let mut empty = in_memory(rt.alloc(), &ECHO, &[], NONE)?;
+    let mut empty = echo(rt.alloc(), &[], NONE)?;
     check(&rt, &CALL, &mut empty, (0, "halt:0 12 - -\n", ""))?;
+    let large = image_file(rt.alloc(), &ECHO, 0x8000_0000)?;
+    let mut in_large = in_memory(rt.alloc(), &large, &[7], NONE)?;
+    check(&rt, &CALL, &mut in_large, (0, "halt:0 12 07 -\n", ""))?;
     Ok(())
 }
 
-/// The echo with these words in place of its own.
-fn with_words(words: &[u32; 12]) -> [u8; 168] {
-    let mut file = ECHO;
-    for i in 0..12 {
-        let bytes = words[i].to_le_bytes();
-        for k in 0..4 {
-            file[120 + 4 * i + k] = bytes[k];
-        }
-    }
-    file
-}
-
-/// An illegal word, a call that there isn't, and the packet sent twice before an illegal word.
-const OTHER_LINES: [([u32; 12], &str); 3] = [
-    ([0; 12], "fault:2:10000:0 0 none -\n"),
+/// A rest after the packet was read, an unknown hypercall, an illegal word after two packets,
+/// and console bytes.
+const LINES: [(&[u32], &str); 4] = [
     (
-        [0x0630_0893, 0x0000_0073, 0, 0, 0, 0, 0, 0, 0, 0, 0, 0],
-        "fault:8:10004:63 1 none -\n",
+        &[
+            0x0010_0413,
+            0x0104_1413,
+            0x1004_0513,
+            0x4000_0593,
+            0x0070_0893,
+            0x0000_0073,
+            0x0030_0893,
+            0x0000_0073,
+        ],
+        "ok 8 none -\n",
     ),
+    (&[0x0630_0893, 0x0000_0073], "fault:8:10004:63 1 none -\n"),
     (
-        [
+        &[
             0x0010_0413,
             0x0104_1413,
             0x1004_0513,
@@ -134,31 +180,55 @@ const OTHER_LINES: [([u32; 12], &str); 3] = [
             0x0000_0073,
             0x1004_0513,
             0x0000_0073,
-            0,
         ],
         "fault:2:1002c:0 11 0102/0102 -\n",
+    ),
+    (
+        &[
+            0x0000_0517,
+            0x01c5_0513,
+            0x0020_0593,
+            0x0020_0893,
+            0x0000_0073,
+            0x0080_0893,
+            0x0000_0073,
+            0x0000_6968,
+        ],
+        "halt:0 7 none 6869\n",
     ),
 ];
 
 #[test]
-fn spells_faults_and_packets(rt: HostRuntime) -> Result<(), Fail> {
-    for (words, line) in OTHER_LINES {
-        let mut world = in_memory(rt.alloc(), &with_words(&words), &[1, 2], NONE)?;
+fn spells_ends_packets_and_console(rt: HostRuntime) -> Result<(), Fail> {
+    for (words, line) in LINES {
+        let file = image_file(rt.alloc(), words, 0x1000)?;
+        let mut world = in_memory(rt.alloc(), &file, &[1, 2], NONE)?;
         check(&rt, &CALL, &mut world, (0, line, ""))?;
     }
     Ok(())
 }
 
+/// The fields of the file that are wrong, a byte each, and what is said of it.
+const FAULTY: [(usize, u8, &str); 9] = [
+    (0, 0x7e, "seuss: image Magic\n"),
+    (4, 1, "seuss: image Class\n"),
+    (5, 2, "seuss: image Order\n"),
+    (16, 3, "seuss: image FileKind\n"),
+    (18, 0x3e, "seuss: image Machine\n"),
+    (54, 57, "seuss: image HeaderSize\n"),
+    (56, 65, "seuss: image TooBig\n"),
+    (33, 1, "seuss: image ProgramHeader\n"),
+    (24, 2, "seuss: image Entry\n"),
+];
+
 /// What is wrong with the image is told before the source is read.
 #[test]
 fn refuses_what_is_no_image(rt: HostRuntime) -> Result<(), Fail> {
-    let mut other = ECHO;
-    other[0] = 0x7e;
-    for (file, said) in [
-        (&ECHO[..63], "seuss: image Short\n"),
-        (other.as_slice(), "seuss: image Form\n"),
-    ] {
-        let mut world = in_memory(rt.alloc(), file, &[1, 2], (0, 1, 0, 0))?;
+    for (at, byte, said) in FAULTY {
+        let mut file = image_file(rt.alloc(), &ECHO, 0x1000)?;
+        assert!(rt; at < file.len());
+        file[at] = byte;
+        let mut world = in_memory(rt.alloc(), &file, &[1, 2], (0, 1, 0, 0))?;
         check(&rt, &CALL, &mut world, (2, "", said))?;
         assert_eq!(rt; world.source.faults(), 0);
     }
@@ -166,8 +236,17 @@ fn refuses_what_is_no_image(rt: HostRuntime) -> Result<(), Fail> {
 }
 
 #[test]
-fn refuses_words_in_no_form(rt: HostRuntime) -> Result<(), Fail> {
-    for words in [
+fn refuses_a_file_that_is_cut(rt: HostRuntime) -> Result<(), Fail> {
+    let mut file = image_file(rt.alloc(), &ECHO, 0x1000)?;
+    file.truncate(63);
+    let mut world = in_memory(rt.alloc(), &file, &[1, 2], (0, 1, 0, 0))?;
+    check(&rt, &CALL, &mut world, (2, "", "seuss: image Short\n"))?;
+    Ok(())
+}
+
+#[test]
+fn refuses_arguments_in_no_form(rt: HostRuntime) -> Result<(), Fail> {
+    for arguments in [
         [].as_slice(),
         &["call"],
         &["call", ""],
@@ -175,8 +254,8 @@ fn refuses_words_in_no_form(rt: HostRuntime) -> Result<(), Fail> {
         &["call", "echo.elf", "echo.elf"],
         &["kall", "echo.elf"],
     ] {
-        let mut world = in_memory(rt.alloc(), &ECHO, &[1, 2], (1, 1, 0, 0))?;
-        check(&rt, words, &mut world, (1, "", "seuss: words\n"))?;
+        let mut world = echo(rt.alloc(), &[1, 2], (1, 1, 0, 0))?;
+        check(&rt, arguments, &mut world, (1, "", "seuss: words\n"))?;
         assert_eq!(rt; (world.files.faults(), world.source.faults()), (0, 0));
     }
     Ok(())
@@ -209,31 +288,31 @@ const FAULTS: [(Failing, Outcome); 15] = [
 #[test]
 fn each_call_that_fails_has_its_status(rt: HostRuntime) -> Result<(), Fail> {
     for (failing, outcome) in FAULTS {
-        let mut world = in_memory(rt.alloc(), &ECHO, &[1, 2], failing)?;
+        let mut world = echo(rt.alloc(), &[1, 2], failing)?;
         check(&rt, &CALL, &mut world, outcome)?;
     }
-    let mut world = in_memory(rt.alloc(), &ECHO, &[1, 2], NONE)?;
-    let words = ["call", "other.elf"];
-    check(&rt, &words, &mut world, (6, "", "seuss: file fault\n"))?;
+    let mut world = echo(rt.alloc(), &[1, 2], NONE)?;
+    check(
+        &rt,
+        &["call", "other.elf"],
+        &mut world,
+        (6, "", "seuss: file fault\n"),
+    )?;
     Ok(())
 }
 
-/// The program with room for the longest packet: `srli a1, s0, 1` asks for 32,768 bytes, half
-/// of the segment's address, and the segment has 65,536.
-fn roomy() -> [u8; 168] {
-    let mut file = ECHO;
-    file[105] = 0;
-    file[106] = 1;
-    file[133] = 0x55;
-    file[134] = 0x14;
-    file[135] = 0;
-    file
+/// The echo program with room for the longest packet: `srli a1, s0, 1` asks for 32,768 bytes,
+/// half of the segment's address, and the segment has 65,536.
+fn roomy(alloc: Global) -> Result<Vec<u8>, AllocError> {
+    let mut words = ECHO;
+    words[3] = 0x0014_5593;
+    image_file(alloc, &words, 0x10000)
 }
 
 #[test]
 fn echoes_the_longest_packet(rt: HostRuntime) -> Result<(), Fail> {
     let packet = vec![in rt.alloc(); 0x5a; 32_768]?;
-    let mut world = in_memory(rt.alloc(), &roomy(), &packet, NONE)?;
+    let mut world = in_memory(rt.alloc(), &roomy(rt.alloc())?, &packet, NONE)?;
     assert_eq!(rt; run(rt.alloc(), &CALL, &mut world)?, 0);
     let digits = hex::encode(rt.alloc(), &packet)?;
     let line = format!(in rt.alloc(); "halt:0 12 {digits} -\n")?;
@@ -250,7 +329,7 @@ fn refuses_a_longer_packet(rt: HostRuntime) -> Result<(), Fail> {
         ((0, 32_769, 0, 0), (4, "", "seuss: read fault\n")),
         ((0, 32_770, 0, 0), (3, "", "seuss: size\n")),
     ] {
-        let mut world = in_memory(rt.alloc(), &roomy(), &packet, failing)?;
+        let mut world = in_memory(rt.alloc(), &roomy(rt.alloc())?, &packet, failing)?;
         check(&rt, &CALL, &mut world, outcome)?;
     }
     Ok(())

@@ -6,11 +6,18 @@ use Rattle.edge_io.proofs.sink.write_all.Goals as goal
 
 pub loop-written-preserved : goal.loop-written-preserved
 loop-written-preserved g c =
-    let within = rw (take_rest c.args.bytes.now c.loop-written.written, length-drop c.loop-written.written c.args.bytes.now) at c.in-Ok.ensures.within in
-    let taken = rw (take_rest c.args.bytes.now c.loop-written.written) at c.in-Ok.ensures.taken in
+    let bytes = c.args.bytes.now in
+    let written = c.loop-written.written in
+    let rest = take_rest bytes written in
+    let within = rw (rest, length-drop written bytes) at c.in-Ok.ensures.within in
+    let taken = rw rest at c.in-Ok.ensures.taken in
     let counted = c.in-Ok.ensures.counted in
+    let before = g.K.Sink.contents c.args.sink.now in
+    let between = g.K.Sink.contents c.loop-written.sink in
+    let after = g.K.Sink.contents c.write.new.self in
     record {
       within = omega arith;
-      added = adds_more (g.K.Sink.contents c.args.sink.now) (g.K.Sink.contents c.loop-written.sink) (g.K.Sink.contents c.write.new.self) c.args.bytes.now c.loop-written.written c.in-Ok.taken c.loop-written.invariant.added taken;
+      added = adds_more before between after bytes written c.in-Ok.taken
+          c.loop-written.invariant.added taken;
       counted = omega arith;
     }

@@ -1,13 +1,14 @@
 -- The first bytes were added to what the sink held.
-use Rattle.std.proofs.Common.{◌≤◌, ◌-◌, length, take}
+use Rattle.std.proofs.Common.{◌≡◌, ◌≤◌, ◌-◌, length, take}
 use Rattle.edge_io.specs.Content.{Adds}
 use Rattle.edge_io.proofs.sink.write_all.Given as goal
 
 abbrev pub invariant-loop-written : goal.invariant-loop-written
 invariant-loop-written g l = record {
   within : l.written ≤ length l.bytes;
-  added : Adds (take l.written l.bytes) (g.K.Sink.contents l.initial.sink) (g.K.Sink.contents l.sink);
-  counted : g.K.Sink.faults l.initial.sink ≤ g.K.Sink.faults l.sink;
+  added : Adds (take l.written l.bytes)
+      (g.K.Sink.contents l.initial.sink) (g.K.Sink.contents l.sink);
+  counted : g.K.Sink.faults l.sink ≡ g.K.Sink.faults l.initial.sink;
 }
 
 -- how many bytes are left to write

@@ -2,11 +2,11 @@
 use Rattle.std.proofs.Common.{◌≡◌, ℕ, ◌<◌, ◌^◌, sym, ◌∙◌, arith}
 use Rattle.std.specs.Prelude.{Option, Some, None}
 use Rattle.std.proofs.lemmas.Option.{none-some}
-use Rattle.machine_model.specs.InstructionWord.{Decodes}
-use Rattle.machine_model.specs.declared.instruction.Inst.{Inst}
-use Rattle.machine_model.proofs.Completeness.{reading-word}
-use Rattle.machine_model.proofs.Soundness.{reading-sound}
-use Rattle.machine_model.proofs.Reading.{reading}
+use Rattle.instruction_model.specs.InstructionWord.{Decodes}
+use Rattle.instruction_model.specs.declared.instruction.Inst.{Inst}
+use Rattle.instruction_model.proofs.Completeness.{reading-word}
+use Rattle.instruction_model.proofs.Soundness.{reading-sound}
+use Rattle.instruction_model.specs.Reading.{reading}
 use Rattle.rv_code.proofs.decoder.decode.Goals as goal
 
 decodes-reading : (w : ℕ) (o : Option Inst) → w < 2 ^ 32 → o ≡ reading w → Decodes w o

@@ -3,8 +3,8 @@ use Rattle.std.proofs.Common.{◌≡◌, ℕ, ◌^◌, ◌<◌, ◌≤◌, arith
 use Rattle.std.specs.Prelude.{ℤ, pos, negsuc, ◌+ℤ◌, ◌<ℤ◌}
 use Rattle.std.proofs.Math.Nat.{mod-eq_of_lt}
 use Rattle.std.proofs.lemmas.Int.{ints}
-use Rattle.machine_model.specs.InstructionWord.{FitsBits}
-use Rattle.machine_model.specs.Word.{modulo_two_to}
+use Rattle.instruction_model.specs.InstructionWord.{FitsBits}
+use Rattle.instruction_model.specs.Word.{modulo_two_to}
 use Rattle.rv_code.proofs.Shifts.{small_power}
 use Rattle.rv_code.proofs.field.unsigned.Goals as goal
 

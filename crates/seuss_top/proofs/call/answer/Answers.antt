@@ -1,26 +1,14 @@
-use Rattle.std.proofs.Common.{subst, string_bytes}
-use Rattle.std.proofs.lemmas.Result.{IfOk-weaker}
-use Rattle.machine_model.specs.declared.image.Image.{Image}
-use Rattle.seuss_top.specs.Outcome.{IsRunLine}
-use Rattle.seuss_top.proofs.Told.{told_weaker, on_ok_of}
+use Rattle.std.proofs.Common.{subst, sym}
+use Rattle.std.proofs.lemmas.Result.{IfErr-weaker}
+use Rattle.seuss_top.proofs.Ends.{whole_taken}
+use Rattle.seuss_top.specs.Call.{Refuses}
+use Rattle.seuss_top.specs.Outside.{no_sink, outside, seen}
+use Rattle.seuss_top.specs.declared.refusal.Refusal.{Refusal}
 use Rattle.seuss_top.proofs.call.answer.Goals as goal
 
-pub returns-clause-ok : goal.returns-clause-ok
-returns-clause-ok g c =
-    let program = c.in_ok-image.ensures.ok in
-    let packet = c.in_ok-packet.packet in
-    IfOk-weaker c.run_line.result _ _ (λ line ran. record {
-      name = c.in-Some.name.now;
-      bytes = program.0;
-      packet = packet;
-      command = c.in-Some.ensures;
-      bytes_are = program.3;
-      form = program.1;
-      packet_is = told_weaker (g.S.Source.remaining c.args.source.now) _ _ (λ told h. h.0) c.in_ok-packet.ensures.told;
-      packet_fits = c.in_ok-packet.ensures.ok;
-      run = subst (λ (image : Image). IsRunLine image packet (string_bytes line)) program.2 ran;
-    }) c.run_line.ensures.ok
-
-pub returns-clause-read : goal.returns-clause-read
-returns-clause-read g c =
-    on_ok_of c.run_line.result _ (told_weaker (g.S.Source.remaining c.args.source.now) _ _ (λ told h. h.1) c.in_ok-packet.ensures.told)
+-- memory ran out after the packet was read
+pub returns-clause-refused : goal.returns-clause-refused
+returns-clause-refused g c =
+    let taken = whole_taken (g.S.Source.remaining c.args.source.now) (g.S.Source.remaining c.read_packet.new.source) c.in_ok-packet.packet c.in_ok-packet.ensures.packet.0 c.in_ok-packet.ensures.packet.1 in
+    let P : Refusal → Type 0 = Refuses (outside (seen (g.F.Files.contents c.args.files.now) (g.F.Files.contents c.read_program.new.files) (g.F.Files.faults c.args.files.now) (g.F.Files.faults c.read_program.new.files)) (seen (g.S.Source.remaining c.args.source.now) (g.S.Source.remaining c.read_packet.new.source) (g.S.Source.faults c.args.source.now) (g.S.Source.faults c.read_packet.new.source)) no_sink) c.args.name.now in
+    IfErr-weaker c.run_line.result _ P (λ refusal memory. subst P (sym memory) taken) c.run_line.ensures.refused

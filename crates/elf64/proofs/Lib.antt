@@ -1,0 +1,4 @@
+pub mod Counting
+pub mod Executable
+pub mod Images
+pub mod Table

@@ -1,0 +1,5 @@
+pub mod Joined
+pub mod Pages
+pub mod Regions
+pub mod Soundness
+pub mod Within

@@ -1,0 +1,5 @@
+pub mod Completeness
+pub mod Fields
+pub mod Immediates
+pub mod Soundness
+pub mod Tables

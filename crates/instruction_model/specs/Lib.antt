@@ -1,0 +1,3 @@
+pub mod InstructionWord
+pub mod Reading
+pub mod Word

@@ -1,5 +1,0 @@
-use Rattle.machine_model.proofs.Runs as runs
-use Rattle.machine_model.proofs.run_laws.faults_keep.Goals as goal
-
-pub returns : goal.returns
-returns c = runs.fault_keeps
