@@ -1,0 +1,171 @@
+#!/bin/bash
+# What the program answers to words, files and streams: its status, and each byte that it
+# writes. With a word it is the program of that path, and else the gate's build.
+# shellcheck source=scripts/check_lib.sh
+. "$(dirname -- "${BASH_SOURCE[0]}")/../check_lib.sh"
+
+# answers NAME OUTPUT COMMAND..: status 0, this output, and nothing on standard error.
+answers() {
+    local name=$1 output=$2
+    shift 2
+    expect "$name" 0 "$output" '' "$@"
+}
+
+# refuses STATUS LINE NAME COMMAND..: the status with its line, and no output.
+refuses() {
+    local status=$1 line=$2 name=$3
+    shift 3
+    expect "$name" "$status" '' "seuss: $line\\n" "$@"
+}
+
+# Ways to run the words on other streams than files.
+into_full() { "$@" >/dev/full; }
+with_full_errors() { "$@" 2>/dev/full; }
+into_unwritable() { "$@" 1<"$work/source"; }
+from() {
+    local source=$1
+    shift
+    "$@" <"$source"
+}
+from_unreadable() { "$@" 0>"$work/unread"; }
+
+# Runs the words on a pipe that brings the two bytes of a packet one by one.
+from_slow_pipe() {
+    { printf '\001' && sleep 0.1 && printf '\002'; } | "$@"
+}
+
+# Runs the words with a pipe as their output that no one reads any more.
+into_closed_pipe() {
+    { sleep 0.1 && "$@"; echo "$?" >"$work/status"; } | :
+    return "$(cat "$work/status")"
+}
+
+# Runs the words with as little of an environment as there can be.
+without_environment() { env -i "$@"; }
+
+# under NAME COMMAND..: runs the program by another name than its path.
+under() { (exec -a "$1" "${@:2}"); }
+
+check_answers() {
+    local digits
+    source_of '\001\002' 1
+    answers "a packet" 'halt:0 12 0102 -\n' "$program" call echo.elf
+    answers "a path" 'halt:0 12 0102 -\n' "$program" call ../images/echo.elf
+    answers "a whole path" 'halt:0 12 0102 -\n' "$program" call "$folder/echo.elf"
+    answers "a name with spaces, a line feed and a dash" 'halt:0 12 0102 -\n' \
+        "$program" call $'an image\n-'
+    answers "a name beyond ASCII" 'halt:0 12 0102 -\n' "$program" call $'\xc3\xa9'
+    answers "a name of a replacement character" 'halt:0 12 0102 -\n' "$program" call $'\xef\xbf\xbd'
+    answers "a pipe that brings a byte at a time" 'halt:0 12 0102 -\n' \
+        from_slow_pipe "$program" call echo.elf
+    answers "no environment" 'halt:0 12 0102 -\n' without_environment "$program" call echo.elf
+    answers "no name of its own" 'halt:0 12 0102 -\n' under '' "$program" call echo.elf
+    answers "no standard error" 'halt:0 12 0102 -\n' without_errors "$program" call echo.elf
+    answers "an empty source" 'halt:0 12 - -\n' from /dev/null "$program" call echo.elf
+    source_of '\253' 1024
+    digits=$(printf 'ab%.0s' {1..1024})
+    answers "1,024 bytes" "halt:0 12 $digits -\\n" "$program" call echo.elf
+    # echo.elf takes no packet of more than 1,024 bytes, and sends those that it has for it.
+    source_of '\253' 32768
+    digits=$(printf '00%.0s' {1..1024})
+    answers "32,768 bytes" "halt:0 12 $digits -\\n" "$program" call echo.elf
+}
+
+check_words() {
+    source_of '\001\002' 1
+    refuses 1 words "no words" "$program"
+    refuses 1 words "the word call alone" "$program" call
+    refuses 1 words "an image alone" "$program" echo.elf
+    refuses 1 words "a name of its own is no word" under call "$program" echo.elf
+    refuses 1 words "a name that begins with a dash" "$program" call -x
+    refuses 1 words "a name that is a dash, of a file" "$program" call -
+    refuses 1 words "another word than call" "$program" run echo.elf
+    refuses 1 words "another letter in call" "$program" Call echo.elf
+    refuses 1 words "a space behind call" "$program" 'call ' echo.elf
+    refuses 1 words "both in one word" "$program" 'call echo.elf'
+    refuses 1 words "--help" "$program" --help
+    refuses 1 words "an image twice" "$program" call echo.elf echo.elf
+    refuses 1 words "the words twice" "$program" call echo.elf call echo.elf
+    refuses 1 words "a word in front" "$program" x call echo.elf
+    refuses 1 words "a word between" "$program" call -- echo.elf
+    refuses 1 words "a word behind" "$program" call echo.elf x
+    refuses 1 words "a hundred words behind" "$program" call echo.elf {1..100}
+    check_odd_words
+}
+
+# Words that are empty or aren't UTF-8. One that was left out, or mended, would leave words
+# with an answer.
+check_odd_words() {
+    local odd word
+    refuses 1 words "an empty word alone" "$program" ''
+    refuses 1 words "an empty image" "$program" call ''
+    refuses 1 words "an empty word in front" "$program" '' call echo.elf
+    refuses 1 words "an empty word between" "$program" call '' echo.elf
+    refuses 1 words "an empty word behind" "$program" call echo.elf ''
+    for odd in $'\xff' $'\xc3' $'\xed\xa0\x80' $'\xc0\xaf' $'echo.elf\x80'; do
+        word=$(printf '%q' "$odd")
+        refuses 1 words "the word $word alone" "$program" "$odd"
+        refuses 1 words "the word $word as the image" "$program" call "$odd"
+        refuses 1 words "the word $word in front" "$program" "$odd" call echo.elf
+        refuses 1 words "the word $word between" "$program" call "$odd" echo.elf
+        refuses 1 words "the word $word behind" "$program" call echo.elf "$odd"
+    done
+}
+
+check_images() {
+    source_of '\001\002' 1
+    refuses 2 'image Short' "an empty image" "$program" call empty.elf
+    refuses 2 'image Short' "63 bytes of an image" "$program" call short.elf
+    refuses 2 'image Short' "the image /dev/null" "$program" call /dev/null
+    refuses 6 'file fault' "a file that isn't there" "$program" call none.elf
+    refuses 6 'file fault' "a folder as the image" "$program" call .
+    refuses 6 'file fault' "a name below a file" "$program" call echo.elf/x
+    refuses 6 'file fault' "a name that is too long" "$program" call "$(printf 'x%.0s' {1..300})"
+}
+
+check_streams() {
+    source_of '\253' 32769
+    refuses 3 size "32,769 bytes" "$program" call echo.elf
+    refuses 3 size "a source without end" from /dev/zero "$program" call echo.elf
+    source_of '\001\002' 1
+    refuses 4 'read fault' "a folder as the source" from / "$program" call echo.elf
+    refuses 4 'read fault' "no source" without_source "$program" call echo.elf
+    refuses 4 'read fault' "a source that is only written" from_unreadable "$program" call echo.elf
+    refuses 4 'read fault' "no source and no output" without_streams "$program" call echo.elf
+    refuses 5 'write fault' "no output" without_output "$program" call echo.elf
+    refuses 5 'write fault' "a full output" into_full "$program" call echo.elf
+    refuses 5 'write fault' "an output that is only read" into_unwritable "$program" call echo.elf
+    refuses 5 'write fault' "a pipe that no one reads" into_closed_pipe "$program" call echo.elf
+}
+
+# Which cause comes first, and that a fault of standard error changes nothing.
+check_order() {
+    source_of '\253' 32769
+    refuses 1 words "words before a file" "$program" call none.elf x
+    refuses 6 'file fault' "a file before a source" "$program" call none.elf
+    refuses 2 'image Short' "an image before a source" "$program" call short.elf
+    refuses 3 size "a source before an output" into_full "$program" call echo.elf
+    refuses 1 words "words without streams" without_streams "$program"
+    refuses 2 'image Short' "an image without a source" without_source "$program" call short.elf
+    expect "words without a standard error" 1 '' '' without_errors "$program"
+    expect "words with a full standard error" 1 '' '' with_full_errors "$program"
+    expect "a size with a full standard error" 3 '' '' with_full_errors "$program" call echo.elf
+}
+
+make_images() {
+    local name
+    folder=$work/images
+    mkdir -- "$folder" || return
+    for name in echo.elf $'an image\n-' $'\xc3\xa9' $'\xef\xbf\xbd' ./- ./-x call x; do
+        cp -- "$top/examples/echo.elf" "$folder/$name" || return
+    done
+    head -c 63 "$folder/echo.elf" >"$folder/short.elf" && : >"$folder/empty.elf"
+}
+
+find_program "$@" || exit 0
+make_images || exit 1
+check_answers
+check_words
+check_images
+check_streams
+check_order
