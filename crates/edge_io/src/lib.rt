@@ -1,28 +1,24 @@
-//! The outside: what the program reads and writes, as traits with a written meaning,
-//! a count of faults each, objects in memory that tell what they hold, and thin
-//! adapters over the real things.
+//! The outside: what the program reads, writes and asks, as traits with a written meaning, a
+//! count of faults each, objects in memory that tell what they hold, and thin adapters over
+//! the real things. Streams, files and links stand in crates of their own, which this one
+//! passes on.
 #![tactic(auto)]
 
-mod faults;
-mod files;
-mod memory_files;
-mod memory_sink;
-mod memory_source;
-mod sink;
-mod source;
-mod std_files;
-mod std_sink;
-mod std_source;
+mod clock;
+mod gate;
+mod memory_clock;
+mod std_clock;
 
-pub use files::{FileFault, Files};
-pub use memory_files::MemFiles;
-pub use memory_sink::MemSink;
-pub use memory_source::MemSource;
-pub use sink::{Cut, Sink, write_all};
-pub use source::{Failed, ReadFault, Source, read_all};
-pub use std_files::StdFiles;
-pub use std_sink::StdSink;
-pub use std_source::StdSource;
+pub use clock::Clock;
+pub use edge_files::{FileFault, Files, MemFiles, StdFiles, StoreFault};
+pub use edge_links::{Door, Link, MemDoor, MemLink, StdDoor, StdLink};
+pub use edge_streams::{
+    Cut, Failed, MemSink, MemSource, ReadFault, Sink, Source, StdSink, StdSource, read_all,
+    write_all,
+};
+pub use gate::{Gate, MemGate};
+pub use memory_clock::MemClock;
+pub use std_clock::StdClock;
 
 #[cfg(test)]
 mod tests;

@@ -2,3 +2,4 @@ pub mod Layout
 pub mod Pages
 pub mod Permission
 pub mod StartOf
+pub mod Valid

@@ -8,6 +8,7 @@ mod image;
 mod region;
 mod start;
 mod start_laws;
+mod valid;
 
 pub use bytes::Bytes;
 pub use image::{Image, Segment, Segments};

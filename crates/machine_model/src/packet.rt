@@ -1,6 +1,6 @@
 //! Packets, the bytes that a program is given and writes.
 
-ghost use Rattle.std.specs.Prelude.{◌≡◌, ◌<◌, ◌↔◌, IsNone, IfSome, IfOk, length};
+ghost use Rattle.std.specs.Prelude.{◌≡◌, ◌<◌, ◌≤◌, ◌↔◌, IsNone, IfSome, IfOk, length};
 ghost use Rattle.machine_model.specs.Hypercall.{packet_limit};
 
 use std::alloc::{AllocError, Global};
@@ -58,9 +58,10 @@ impl Packet {
         Some(Packet { bytes })
     }
 
-    /// The bytes.
+    /// The bytes, at most 32,768.
     pub fn bytes(&self) -> &[u8]
-        ensures { result.now ≡ self.now }
+        ensures bytes { result.now ≡ self.now }
+        ensures size { length result.now ≤ packet_limit }
     {
         &self.bytes
     }

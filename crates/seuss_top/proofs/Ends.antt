@@ -1,16 +1,15 @@
 -- How `call` ends where it is refused.
-use Rattle.std.proofs.Common.{◌≡◌, ℕ, ◌+◌, ◌<◌, ◌≤◌, List, [], ◌∷◌, length, drop, Option, Some, None, Ok, Err, IfSome, IsOk, refl, sym, ◌∙◌, ap, subst, inl, inr, arith}
+use Rattle.std.proofs.Common.{◌≡◌, ℕ, ◌+◌, ◌<◌, ◌≤◌, List, [], ◌∷◌, length, Option, Some, None, Ok, Err, IfSome, IsOk, refl, sym, ◌∙◌, ap, inl, inr, arith}
 use Rattle.std.proofs.Math.Seq.{drop-length}
-use Rattle.edge_io.specs.Content.{TakesAtMost}
+use Rattle.edge_streams.specs.Content.{TakesAtMost}
 use Rattle.elf64.specs.Elf.{elf}
 use Rattle.elf64.specs.declared.fault.ElfFault.{ElfFault}
 use Rattle.image_model.specs.declared.image.Image.{Image as Program}
 use Rattle.machine_model.specs.Hypercall.{packet_limit}
-use Rattle.seuss_top.specs.Call.{Contents, CallEnds, HasFile, IsCallLine, Refuses, TellsFile, TellsNone}
+use Rattle.seuss_top.specs.Call.{Contents, CallEnds, HasFile, Refuses, TellsFile, TellsNone}
 use Rattle.seuss_top.specs.Ending.{EndsIn, Reports}
 use Rattle.seuss_top.specs.Outside.{Outside, Seen, Fails, no_sink, outside}
 use Rattle.seuss_top.specs.Refusals.{line_of, status_of}
-use Rattle.seuss_top.specs.declared.command.Plain.{Plain}
 use Rattle.seuss_top.specs.declared.command.Plain.TheVariants.{Done}
 use Rattle.seuss_top.specs.declared.refusal.Refusal.{Refusal}
 use Rattle.seuss_top.specs.declared.refusal.Refusal.TheVariants.{Arguments, Image, Size, Read, Write, File, Memory}

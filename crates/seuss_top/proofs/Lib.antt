@@ -1,3 +1,5 @@
 pub mod Ends
+pub mod Executions
 pub mod Files
+pub mod Packets
 pub mod Told

@@ -1,7 +1,7 @@
 -- `call IMAGE`: the image of the file IMAGE runs once, with the source's bytes as one packet.
 use Rattle.std.specs.Prelude.{◌≡◌, ℕ, ◌+◌, ◌<◌, ◌≤◌, ◌⊎◌, List, [], ◌∷◌, length, take, drop, Option}
 use Rattle.std.specs.Prelude.{Some, None, IfSome, IsSomeAnd, Result, Ok, Err, IsOk, codes}
-use Rattle.edge_io.specs.Content.{Adds, TakesAtMost}
+use Rattle.edge_streams.specs.Content.{Adds, TakesAtMost}
 use Rattle.elf64.specs.Elf.{elf}
 use Rattle.elf64.specs.declared.fault.ElfFault.{ElfFault}
 use Rattle.image_model.specs.StartOf.{start_of}

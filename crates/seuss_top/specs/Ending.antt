@@ -1,6 +1,6 @@
 -- How a command ends.
 use Rattle.std.specs.Prelude.{◌≡◌, ◌≢◌, ℕ, ◌⊎◌, List, [], ◌∷◌, take, Option, Result, IfErr, Err}
-use Rattle.edge_io.specs.Content.{Adds}
+use Rattle.edge_streams.specs.Content.{Adds}
 use Rattle.seuss_top.specs.Outside.{Outside, Seen, Fails, IsCounted, IsKept, IsMonotone}
 use Rattle.seuss_top.specs.Refusals.{IsBeforeRead}
 use Rattle.seuss_top.specs.declared.command.Plain.{Plain}

@@ -1,6 +1,6 @@
 -- What a command has outside: files, a source and sinks, before it and after it.
 use Rattle.std.specs.Prelude.{◌≡◌, ℕ, ◌≤◌, List, Option, None}
-use Rattle.edge_io.specs.Faults.{Rises}
+use Rattle.edge_streams.specs.Faults.{Rises}
 
 -- what an object holds where it tells it, and how many of its calls failed
 pub record Seen (A : Type 0) : Type 0 where

@@ -3,28 +3,26 @@
 ghost use Rattle.std.specs.Prelude.{◌≡◌, ◌≢◌, ℕ, ◌+◌, ◌%◌, ◌<◌, ◌≤◌, [], List, length, drop};
 ghost use Rattle.std.specs.Prelude.{string_bytes, Some, Ok, Err, IsOk, IfOk, IfErr, OnOk, IfSome};
 ghost use Rattle.std.specs.Prelude.{MatchResult};
-ghost use Rattle.edge_io.specs.Content.{Keeps, TakesAtMost};
-ghost use Rattle.edge_io.specs.Faults.{Rises};
+ghost use Rattle.edge_streams.specs.Content.{Keeps, TakesAtMost};
+ghost use Rattle.edge_streams.specs.Faults.{Rises};
 ghost use Rattle.elf64.specs.Elf.{elf};
 ghost use Rattle.machine_model.specs.Hypercall.{packet_limit};
 ghost use Rattle.seuss_top.specs.Call as spec;
 ghost use Rattle.seuss_top.specs.Ending as ending;
 ghost use Rattle.seuss_top.specs.Outside.{outside, seen, no_sink};
 
+use crate::execution::execute;
 use crate::refusal::Refusal;
 use crate::reply::reply_line;
 use edge_io::{FileFault, Files, ReadFault, Sink, Source, read_all, write_all};
 use elf64::{ElfFault, Image, ImageFault, entry_is_sound, read_image};
 use machine_model::{PACKET_LIMIT, Packet};
 use std::alloc::Global;
+use std::marker::Brand;
+use std::sync::ledger::Blank;
 
 /// The most bytes of a file that is read.
 const FILE_LIMIT: u64 = 16_777_216;
-
-/// An image runs with a stack of so many bytes, and with a budget of so many instructions.
-const STACK: u64 = 65_536;
-
-const BUDGET: u64 = 100_000_000;
 
 /// The image of the file of a name.
 fn read_program<F: Files>(alloc: Global, files: &mut F, name: &str) -> Result<Image, Refusal>
@@ -83,7 +81,7 @@ fn read_packet<S: Source>(alloc: Global, source: &mut S) -> Result<Packet, Refus
     Packet::new(bytes).ok_or(Refusal::Size)
 }
 
-/// The line of the image's run on the packet.
+/// The line of the image's execution on the packet.
 fn run_line(alloc: Global, image: &Image, packet: Packet) -> Result<String, Refusal>
     requires { image.now.entry % 4 ≡ 0 }
     ensures line { IfOk result (λ line. spec.IsRunLine image.now packet (string_bytes line)) }
@@ -92,10 +90,10 @@ fn run_line(alloc: Global, image: &Image, packet: Packet) -> Result<String, Refu
     let Ok(packets) = vec![in alloc; packet] else {
         return Err(Refusal::Memory);
     };
-    let Ok(reply) = plain_machine::run(alloc, image, STACK, &packets, 0, None, BUDGET) else {
+    let Ok(ended) = execute::<Brand>(alloc, image, &packets, Blank::new(1)) else {
         return Err(Refusal::Memory);
     };
-    match reply_line(alloc, &reply) {
+    match reply_line(alloc, ended.stop, ended.number, &ended.ports) {
         Ok(line) => Ok(line),
         Err(_) => Err(Refusal::Memory),
     }

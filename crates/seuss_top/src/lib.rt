@@ -4,6 +4,7 @@
 mod arguments;
 mod call;
 mod command;
+mod execution;
 mod refusal;
 mod reply;
 

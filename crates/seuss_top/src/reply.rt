@@ -1,12 +1,11 @@
 //! The line of a reply.
 
-ghost use Rattle.std.specs.Prelude.{◌≡◌, ◌++◌, map, string_bytes, IfOk, OnOk};
-ghost use Rattle.std.specs.List.{join_with_byte};
+ghost use Rattle.std.specs.Prelude.{◌≡◌, map, string_bytes, IfOk};
 ghost use Rattle.seuss_top.specs.ReplyLine as model;
 ghost use Rattle.machine_model.specs.declared.stop.Stop.TheVariants.{Exception};
 
-use machine_model::{Packet, Stop};
-use plain_machine::Reply;
+use hyper_calls::Ports;
+use machine_model::Stop;
 use std::alloc::{AllocError, Global};
 
 /// The end of a run whose instruction raised an exception.
@@ -40,47 +39,35 @@ fn bytes_text(alloc: Global, bytes: &[u8]) -> Result<String, AllocError>
     }
 }
 
-/// Adds packets to a text, with a slash between two of them.
-fn push_packets(alloc: Global, text: &mut String, packets: &[Packet]) -> Result<(), AllocError>
-    ensures { OnOk result (string_bytes text.new ≡ string_bytes text.old
-        ++ join_with_byte 47 (map model.bytes_text packets.now)) }
+/// The packets that a run wrote, joined by slashes, or `none`.
+fn packets_text(alloc: Global, ports: &Ports) -> Result<String, AllocError>
+    ensures { IfOk result (λ text. string_bytes text ≡ model.packets_text ports.now.traffic.sent) }
 {
-    match packets {
-        [] => Ok(()),
-        [only] => {
-            let packet = bytes_text(alloc, only.bytes())?;
-            text.push_str(packet.as_str())
-        }
-        [first, rest @ ..] => {
-            let packet = bytes_text(alloc, first.bytes())?;
-            text.push_str(packet.as_str())?;
-            text.push('/')?;
-            push_packets(alloc, text, rest)
-        }
-    }
-}
-
-/// Packets joined by slashes, or `none`.
-fn packets_text(alloc: Global, packets: &[Packet]) -> Result<String, AllocError>
-    ensures { IfOk result (λ text. string_bytes text ≡ model.packets_text packets.now) }
-{
-    if packets.is_empty() {
+    if ports.sent() == 0 {
         return String::from_str(alloc, "none");
     }
-    let mut text = String::new(alloc);
-    push_packets(alloc, &mut text, packets)?;
+    let mut text = bytes_text(alloc, ports.packet(0))?;
+    'packets: for n in 1..ports.sent() {
+        let packet = bytes_text(alloc, ports.packet(n))?;
+        text.push('/')?;
+        text.push_str(packet.as_str())?;
+    }
     Ok(text)
 }
 
-/// `END STEPS PACKETS CONSOLE`, as a line.
-pub fn reply_line(alloc: Global, reply: &Reply) -> Result<String, AllocError>
+/// `END STEPS PACKETS CONSOLE`, as a line: why a run stopped, after how many instructions, and
+/// what it wrote.
+pub fn reply_line(
+    alloc: Global,
+    stop: Stop,
+    number: u64,
+    ports: &Ports,
+) -> Result<String, AllocError>
     ensures { IfOk result (λ line. string_bytes line
-        ≡ model.reply_line reply.now.stop reply.now.number reply.now.packets.items
-        reply.now.console.items) }
+        ≡ model.reply_line stop number ports.now.traffic.sent ports.now.traffic.console) }
 {
-    let end = end_text(alloc, reply.stop)?;
-    let number = reply.number;
-    let packets = packets_text(alloc, &reply.packets)?;
-    let console = bytes_text(alloc, &reply.console)?;
+    let end = end_text(alloc, stop)?;
+    let packets = packets_text(alloc, ports)?;
+    let console = bytes_text(alloc, ports.console())?;
     format!(in alloc; "{end} {number} {packets} {console}\n")
 }

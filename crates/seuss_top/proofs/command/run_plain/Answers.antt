@@ -1,4 +1,3 @@
-use Rattle.std.proofs.Common.{subst, sym}
 use Rattle.seuss_top.proofs.Ends.{refused_ends}
 use Rattle.seuss_top.proofs.command.run_plain.Goals as goal
 

@@ -1,0 +1,26 @@
+use Rattle.space_api.specs.Flat.{machine_of}
+use Rattle.machine_model.specs.Instruction.{word_at_pc}
+use Rattle.hart.proofs.Steps.{may_fetch, step_does, wanted, spent}
+use Rattle.hart.proofs.instruction.step.Goals as goal
+
+pub returns-clause-does : goal.returns-clause-does
+returns-clause-does g c =
+    λ traffic.
+    let old = machine_of c.args.hart.now (g.S.Space.flat c.args.space.now) traffic in
+    let may = may_fetch _ _ _ _ _ c.fetch.ensures.ends c.in-Ok.is in
+    let here = rw c.in-Ok.ensures.value at c.in-Some.ensures.decodes in
+    let does = rw c.in-Ok.ensures.flat at c.execute.ensures.does (word_at_pc old) traffic in
+    step_does c.execute.result old _ c.in-Some.instruction may here does
+
+pub returns-clause-frames : goal.returns-clause-frames
+returns-clause-frames g c =
+    let flat = c.in-Ok.ensures.flat in
+    let spares = c.in-Ok.ensures.spares in
+    let need = g.S.Space.need (g.S.Space.flat c.args.space.now).written in
+    let here = rw c.in-Ok.ensures.value at c.in-Some.ensures.decodes in
+    λ traffic. record {
+      wanted = λ e. wanted need _ _ c.in-Some.instruction here
+          (rw (spares, flat) at c.execute.ensures.frames e);
+      spent = spent need _ _ _ c.in-Some.instruction here
+          (rw (spares, flat) at c.execute.ensures.spent);
+    }

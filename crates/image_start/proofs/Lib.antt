@@ -1,0 +1,3 @@
+pub mod FilePages
+pub mod Runs
+pub mod Written

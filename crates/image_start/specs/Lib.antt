@@ -1,0 +1,4 @@
+pub mod PageSpan
+pub mod Permission
+pub mod Runs
+pub mod Written

@@ -1,0 +1,4 @@
+pub mod Continued
+pub mod Frames
+pub mod Turns
+pub mod Waking

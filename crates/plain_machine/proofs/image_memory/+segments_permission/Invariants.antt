@@ -1,5 +1,0 @@
-use Rattle.std.proofs.Common.{length}
-use Rattle.plain_machine.proofs.image_memory.+segments_permission.Given as goal
-
-abbrev pub decreases-segments_permission : goal.decreases-segments_permission
-decreases-segments_permission l = length l.segments.now

@@ -1,4 +1,0 @@
-pub mod ImageMemory
-pub mod PlainMachine
-pub mod PlainMemory
-pub mod Turn

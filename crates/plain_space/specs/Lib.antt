@@ -1,0 +1,6 @@
+pub mod Copies
+pub mod Pages
+pub mod PlainSpace
+pub mod Sound
+pub mod Space
+pub mod Use

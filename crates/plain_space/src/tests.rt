@@ -1,0 +1,121 @@
+//! Each call of a space once, with values worked by hand: bytes stand the lowest first, pages
+//! have 4,096 bytes, and a page fault is cause 12, 13 or 15.
+
+ghost use Rattle.std.specs.Prelude.{IfOk};
+ghost use Rattle.image_model.specs.Layout.{IsLayout};
+
+use super::*;
+use image_model::{Bytes, PageBytes, Region};
+use space_api::{Access, Space, Start};
+use std::alloc::{AllocError, Global};
+use std::process::Abort;
+use std::test::Fail;
+
+/// Pages 16 and 17 are code, 18 and 19 are data, and 20 may only be read; 16 and 18 are full of
+/// sevens, and so is page 30, which is in no region.
+fn start(alloc: Global) -> Result<Start, AllocError>
+    ensures { IfOk result (λ start. IsLayout start) }
+{
+    let code = Region {
+        page: 16,
+        count: 2,
+        r: true,
+        w: false,
+        x: true,
+    };
+    let writable = Region {
+        page: 18,
+        count: 2,
+        r: true,
+        w: true,
+        x: false,
+    };
+    let constant = Region {
+        page: 20,
+        count: 1,
+        r: true,
+        w: false,
+        x: false,
+    };
+    let first = Bytes::from_vec(vec![in alloc; 7; 4096]?);
+    let second = Bytes::from_vec(vec![in alloc; 7; 4096]?);
+    let third = Bytes::from_vec(vec![in alloc; 7; 4096]?);
+    let regions = vec![in alloc; code, writable, constant]?;
+    let pages = vec![in alloc;
+        PageBytes {
+            page: 16,
+            bytes: first
+        },
+        PageBytes {
+            page: 18,
+            bytes: second
+        },
+        PageBytes {
+            page: 30,
+            bytes: third
+        },
+    ]?;
+    Ok(Start::new(0x1_0000, regions, pages))
+}
+
+/// A fault of this cause at an address.
+fn fault<T>(cause: u64, addr: u64) -> Result<T, Access> {
+    Err(Access::Fault { cause, addr })
+}
+
+/// Loads, where nothing was stored yet.
+fn loads<R: Abort, S: Space>(rt: &R, space: &mut S) -> Result<(), Fail> {
+    assert_eq!(rt; space.load(0x1_0000, 1), Ok(0x07));
+    assert_eq!(rt; space.load(0x1_0001, 2), Ok(0x0707));
+    assert_eq!(rt; space.load(0x1_0003, 4), Ok(0x0707_0707));
+    assert_eq!(rt; space.load(0x1_0ff8, 8), Ok(0x0707_0707_0707_0707));
+    assert_eq!(rt; space.load(0x1_0ffd, 8), Ok(0x0007_0707));
+    assert_eq!(rt; space.load(0x1_3800, 8), Ok(0));
+    assert_eq!(rt; space.load(0x1_e000, 1), fault(13, 0x1_e000));
+    assert_eq!(rt; space.load(u64::MAX - 3, 8), fault(13, 0));
+    Ok(())
+}
+
+/// Stores in a page, over its end, on a page that had no bytes, and where they aren't allowed.
+fn stores<R: Abort, S: Space>(rt: &R, space: &mut S) -> Result<(), Fail> {
+    assert_eq!(rt; space.store(0x1_2100, 8, 0x8877_6655_4433_2211), Ok(()));
+    assert_eq!(rt; space.load(0x1_2101, 2), Ok(0x3322));
+    assert_eq!(rt; space.load(0x1_2103, 4), Ok(0x7766_5544));
+    assert_eq!(rt; space.store(0x1_2ffd, 8, 0x8877_6655_4433_2211), Ok(()));
+    assert_eq!(rt; space.load(0x1_2ffd, 8), Ok(0x8877_6655_4433_2211));
+    assert_eq!(rt; space.load(0x1_3000, 4), Ok(0x7766_5544));
+    assert_eq!(rt; space.store(0x1_3ffc, 8, u64::MAX), fault(15, 0x1_4000));
+    assert_eq!(rt; space.load(0x1_3ffc, 4), Ok(0));
+    Ok(())
+}
+
+/// Fetches of bytes, of zeros, and where they aren't allowed.
+fn fetches<R: Abort, S: Space>(rt: &R, space: &mut S) -> Result<(), Fail> {
+    assert_eq!(rt; space.fetch(0x1_0ffc), Ok(0x0707_0707));
+    assert_eq!(rt; space.fetch(0x1_1000), Ok(0));
+    assert_eq!(rt; space.fetch(0x1_2000), fault(12, 0x1_2000));
+    Ok(())
+}
+
+/// Copies in and out over several pages.
+fn copies<R: Abort, S: Space>(rt: &R, alloc: Global, space: &mut S) -> Result<(), Fail> {
+    let nines = vec![in alloc; 9; 4609]?;
+    assert_eq!(rt; space.write_from(0x1_2e00, &nines), fault(15, 0x1_4000));
+    assert_eq!(rt; space.write_from(0x1_2e00, &nines[..4608]), Ok(()));
+    let mut buf = vec![in alloc; 1; 4610]?;
+    assert_eq!(rt; space.read_into(0x1_2dff, &mut buf), Ok(()));
+    assert_eq!(rt; (buf[0], buf[1], buf[4608], buf[4609]), (7, 9, 9, 0));
+    assert_eq!(rt; space.held(), 0);
+    Ok(())
+}
+
+#[test]
+fn a_space_does_what_its_trait_says(rt: HostRuntime) -> Result<(), Fail> {
+    let start = start(rt.alloc())?;
+    let mut space = PlainSpace::of(rt.alloc(), &start)?;
+    loads(&rt, &mut space)?;
+    stores(&rt, &mut space)?;
+    fetches(&rt, &mut space)?;
+    copies(&rt, rt.alloc(), &mut space)?;
+    Ok(())
+}
