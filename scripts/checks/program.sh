@@ -152,6 +152,78 @@ check_order() {
     expect "a size with a full standard error" 3 '' '' with_full_errors "$program" call echo.elf
 }
 
+# little BYTES NUMBER..: each number in so many bytes, the lowest first, as escapes.
+little() {
+    local bytes=$1 number at
+    shift
+    for number; do
+        for ((at = 0; at < bytes; at++)); do printf '\\x%02x' $((number >> 8 * at & 255)); done
+    done
+}
+
+# program_header OFFSET ADDRESS FLAGS BYTES: the header of a segment with a page of memory.
+program_header() {
+    little 4 1 "$3"
+    little 8 "$1" "$2" "$2" "$4" 4096 1
+}
+
+# make_image NAME FLAGS DATA WORD..: the image of these words at 0x10000, on a page with these
+# flags, and where DATA is 1 of a page behind it, at 0x20000, that may be read and written.
+make_image() {
+    local name=$1 flags=$2 data=$3 word at
+    shift 3
+    at=$((64 + 56 * (1 + data)))
+    {
+        printf '\\x7fELF\\x02\\x01\\x01' && little 1 0 0 0 0 0 0 0 0 0
+        little 2 2 243 && little 4 1 && little 8 0x10000 64 0
+        little 4 0 && little 2 64 56 $((1 + data)) 0 0 0
+        program_header "$at" 0x10000 "$flags" $((4 * $#))
+        [ "$data" -eq 0 ] || program_header 0 0x20000 6 0
+        for word; do little 4 "0x$word"; done
+    } >"$work/escapes"
+    printf '%b' "$(cat "$work/escapes")" >"$folder/$name"
+}
+
+# ends NAME LINE FLAGS WORD..: the line of the run of these words.
+ends() {
+    local name=$1 line=$2 flags=$3
+    shift 3
+    make_image words.elf "$flags" 0 "$@"
+    answers "$name" "$line\\n" "$program" call words.elf
+}
+
+# What small programs do, as worked out by hand.
+check_runs() {
+    : >"$work/source"
+    ends "EBREAK" 'fault:3:10000:10000 0 none -' 5 00100073
+    ends "a word that is no instruction" 'fault:2:10000:30001073 0 none -' 5 30001073
+    ends "a fence" 'halt:0 4 none -' 5 0ff0000f 00000513 00800893 00000073
+    ends "a hypercall that there isn't" 'fault:8:10004:63 1 none -' 5 06300893 00000073
+    ends "a load from nowhere" 'fault:13:10000:0 0 none -' 5 00003503
+    ends "a jump to nowhere" 'fault:12:11000:11000 1 none -' 5 0000106f
+    ends "a jump between instructions" 'fault:0:10004:2 1 none -' 5 00300293 000280e7
+    ends "a store over the end of a page" 'fault:15:10014:11000 5 none -' 7 \
+        00100413 01041413 fff00293 7ff40413 7fd40413 00543023
+    ends "a jump to itself" 'budget 100000000 none -' 5 0000006f
+    ends "bytes for the console" 'halt:0 7 none 6869' 5 \
+        00000517 01c50513 00200593 00200893 00000073 00800893 00000073 00006968
+    ends "no room for an empty packet" 'halt:0 6 none -' 5 \
+        00000513 00000593 00700893 00000073 00800893 00000073
+    check_counts
+    source_of '\001' 1
+    ends "no room for a packet" 'halt:2 6 none -' 5 \
+        00000513 00000593 00700893 00000073 00800893 00000073
+}
+
+# A program with a page of data, which rests.
+check_counts() {
+    make_image count.elf 5 1 00020437 00043023 00300893 00000073 01040513 04000593 00700893 \
+        00000073 00043283 01044303 006282b3 00543023 00040513 00100593 00600893 00000073 fc9ff06f
+    answers "a sum of nothing" 'ok 19 00 -\n' "$program" call count.elf
+    source_of '\005' 1
+    answers "a sum" 'ok 19 05 -\n' "$program" call count.elf
+}
+
 make_images() {
     local name
     folder=$work/images
@@ -165,6 +237,7 @@ make_images() {
 find_program "$@" || exit 0
 make_images || exit 1
 check_answers
+check_runs
 check_words
 check_images
 check_streams
