@@ -209,10 +209,23 @@ check_runs() {
         00000517 01c50513 00200593 00200893 00000073 00800893 00000073 00006968
     ends "no room for an empty packet" 'halt:0 6 none -' 5 \
         00000513 00000593 00700893 00000073 00800893 00000073
+    check_start
     check_counts
     source_of '\001' 1
     ends "no room for a packet" 'halt:2 6 none -' 5 \
         00000513 00000593 00700893 00000073 00800893 00000073
+}
+
+# What a program of the command starts with: the stack pointer at 2^38, a stack of 65,536 bytes
+# whose lowest is stored to and loaded and the byte below isn't, and a clock that shows 0.
+check_start() {
+    ends "the stack pointer" 'halt:274877906944 3 none -' 5 00010513 00800893 00000073
+    ends "the lowest byte of the stack" 'halt:0 6 none -' 5 \
+        000102b7 405102b3 00528023 0002c503 00800893 00000073
+    ends "the byte below the stack" 'fault:15:10008:3ffffeffff 2 none -' 5 \
+        000102b7 405102b3 fea28fa3
+    ends "the byte at the stack's end" 'fault:13:10000:4000000000 0 none -' 5 00014503
+    ends "the clock" 'halt:0 4 none -' 5 00100893 00000073 00800893 00000073
 }
 
 # A program with a page of data, which rests.
