@@ -21,4 +21,6 @@ pub use memory_clock::MemClock;
 pub use std_clock::StdClock;
 
 #[cfg(test)]
+mod link_tests;
+#[cfg(test)]
 mod tests;

@@ -15,6 +15,3 @@ pub use memory_door::MemDoor;
 pub use memory_link::MemLink;
 pub use std_door::StdDoor;
 pub use std_link::StdLink;
-
-#[cfg(test)]
-mod tests;

@@ -14,7 +14,7 @@ use std::io::{Read, Write};
 /// made again, at most 16 times.
 #[derive(Drop)]
 pub struct StdLink<S> {
-    pub(crate) stream: S,
+    stream: S,
     /// How many calls failed. At its type's end it stands still.
     faults: u64,
 }
@@ -26,6 +26,13 @@ impl<S: Read + Write> StdLink<S> {
         ensures faults { ⟦<StdLink<S> as Link>⟧.faults result ≡ 0 }
     {
         StdLink { stream, faults: 0 }
+    }
+
+    /// The stream.
+    pub fn stream(&self) -> &S
+        ensures { result.now ≡ self.now.stream }
+    {
+        &self.stream
     }
 
     /// How many calls failed. At its type's end the count stands still.

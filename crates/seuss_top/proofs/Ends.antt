@@ -22,7 +22,7 @@ of_bytes None name bytes P tells has = absurd tells
 of_bytes (Some file_of) name bytes P tells has = rw tells at has
 
 -- the file's bytes are those that are told
-same_bytes : (files : Contents) (name bytes other : List ℕ) → TellsFile files name bytes → IfSome files (λ file_of. file_of name ≡ Some other) → bytes ≡ other
+pub same_bytes : (files : Contents) (name bytes other : List ℕ) → TellsFile files name bytes → IfSome files (λ file_of. file_of name ≡ Some other) → bytes ≡ other
 same_bytes None name bytes other tells is = absurd tells
 same_bytes (Some file_of) name bytes other tells is = cc
 
@@ -31,14 +31,14 @@ none_has : (files : Contents) (name : List ℕ) (P : List ℕ → Type 0) → Te
 none_has None name P tells has = absurd tells
 none_has (Some file_of) name P tells has = rw tells at has
 
-none_is : (files : Contents) (name bytes : List ℕ) → TellsNone files name → IfSome files (λ file_of. file_of name ≡ Some bytes) → ⊥
+pub none_is : (files : Contents) (name bytes : List ℕ) → TellsNone files name → IfSome files (λ file_of. file_of name ≡ Some bytes) → ⊥
 none_is None name bytes tells is = absurd tells
 none_is (Some file_of) name bytes tells is = cc
 
 not_ok : (bytes : List ℕ) (fault : ElfFault) → elf bytes ≡ Err fault → IsOk (elf bytes) → ⊥
 not_ok bytes fault e ok = let is_err = rw e at ok in cc
 
-not_both : (a b : List ℕ) (fault : ElfFault) (program : Program) → a ≡ b → elf a ≡ Err fault → elf b ≡ Ok program → ⊥
+pub not_both : (a b : List ℕ) (fault : ElfFault) (program : Program) → a ≡ b → elf a ≡ Err fault → elf b ≡ Ok program → ⊥
 not_both a b fault program same e f = let g : elf a ≡ elf b = ap elf same in cc
 
 -- a packet that was read whole took at most one byte more than the limit

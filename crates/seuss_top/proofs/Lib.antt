@@ -1,5 +1,7 @@
 pub mod Ends
 pub mod Executions
 pub mod Files
+pub mod Kept
 pub mod Packets
+pub mod Statuses
 pub mod Told

@@ -2,8 +2,8 @@
 
 ghost use Rattle.std.specs.Prelude.{◌≡◌, ◌≢◌, ℕ, ◌+◌, ◌%◌, ◌<◌, ◌≤◌, [], List, length, drop};
 ghost use Rattle.std.specs.Prelude.{string_bytes, Some, Ok, Err, IsOk, IfOk, IfErr, OnOk, IfSome};
-ghost use Rattle.std.specs.Prelude.{MatchResult};
-ghost use Rattle.edge_streams.specs.Content.{Keeps, TakesAtMost};
+ghost use Rattle.std.specs.Prelude.{MatchResult, take};
+ghost use Rattle.edge_streams.specs.Content.{Adds, Keeps, TakesAtMost};
 ghost use Rattle.edge_streams.specs.Faults.{Rises};
 ghost use Rattle.elf64.specs.Elf.{elf};
 ghost use Rattle.machine_model.specs.Hypercall.{packet_limit};
@@ -127,6 +127,22 @@ fn answer<F: Files, S: Source>(
     run_line(alloc, &image, packet)
 }
 
+/// Writes the line. A write that fails leaves a part of it, from the front.
+fn write_line<K: Sink>(sink: &mut K, line: &[u8]) -> Result<(), Refusal>
+    ensures written { OnOk result (Adds line.now (K.contents sink.old) (K.contents sink.new)) }
+    ensures refused { IfErr result (λ refusal. (refusal ≡ Refusal.Write)
+        × Rises (K.faults sink.old) (K.faults sink.new)
+        × ((part : ℕ) × (part < length line.now)
+        × Adds (take part line.now) (K.contents sink.old) (K.contents sink.new))) }
+    ensures counted { OnOk result (K.faults sink.new ≡ K.faults sink.old) }
+    ensures monotone { K.faults sink.old ≤ K.faults sink.new }
+{
+    match write_all(sink, line) {
+        Ok(()) => Ok(()),
+        Err(_) => Err(Refusal::Write),
+    }
+}
+
 /// Runs the image of the file of a name on the source's bytes, and writes the line of its run.
 pub fn call<F: Files, S: Source, K: Sink>(
     alloc: Global,
@@ -151,8 +167,5 @@ pub fn call<F: Files, S: Source, K: Sink>(
         (K.faults sink.new))) result }
 {
     let line = answer(alloc, name, files, source)?;
-    match write_all(sink, line.as_bytes()) {
-        Ok(()) => Ok(()),
-        Err(_) => Err(Refusal::Write),
-    }
+    write_line(sink, line.as_bytes())
 }

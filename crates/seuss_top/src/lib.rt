@@ -10,6 +10,3 @@ mod reply;
 
 pub use command::{Command, Plain, Status, report, run_plain};
 pub use refusal::Refusal;
-
-#[cfg(test)]
-mod tests;

@@ -1,5 +1,6 @@
+//! Connections and doors, in memory and over the loopback.
+
 use super::*;
-use edge_streams::Failed;
 use std::alloc::{AllocError, Global};
 use std::io::{Read, Write};
 use std::net::TcpStream;
@@ -83,8 +84,8 @@ fn the_system_has_doors(rt: HostRuntime) -> Result<(), Fail> {
     peer.write_all(b"ping")?;
     let mut link = door.accept()?;
     let half_a_minute = Some(Duration::from_secs(30));
-    assert_eq!(rt; link.stream.read_timeout()?, half_a_minute);
-    assert_eq!(rt; link.stream.write_timeout()?, half_a_minute);
+    assert_eq!(rt; link.stream().read_timeout()?, half_a_minute);
+    assert_eq!(rt; link.stream().write_timeout()?, half_a_minute);
     let mut buf = [0; 4];
     assert_eq!(rt; link.read(&mut buf), Ok(4));
     assert_eq!(rt; buf, *b"ping");

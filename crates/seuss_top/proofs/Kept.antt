@@ -1,0 +1,104 @@
+-- What a command keeps that is refused before it writes.
+use Rattle.std.proofs.Common.{◌≡◌, ◌≢◌, ℕ, ◌≤◌, List, [], length, Option, Some, None, Result, Ok, Err, IfErr, IfOk, IfSome, refl, arith}
+use Rattle.std.specs.Global.{Global}
+use Rattle.std.specs.Prelude.{String, string_bytes}
+use Rattle.machine_model.specs.Hypercall.{packet_limit}
+use Rattle.elf64.specs.Elf.{elf}
+use Rattle.image_model.specs.declared.image.Image.{Image as Program}
+use Rattle.seuss_top.specs.Call.{Contents, HasImage, IsCallLine, IsRunLine, Refuses, RefusesPacket}
+use Rattle.seuss_top.specs.Ending.{Keeps}
+use Rattle.seuss_top.specs.Outside.{Seen, Fails, IsCounted, IsKept, no_sink, outside, seen}
+use Rattle.seuss_top.specs.Refusals.{IsBeforeRead}
+use Rattle.seuss_top.specs.declared.refusal.Refusal.{Refusal}
+use Rattle.seuss_top.specs.declared.refusal.Refusal.TheVariants.{Arguments, Image, Size, Read, Write, File, Memory}
+
+-- no image was had of the file
+pub of_program : {P T : Type 0} (result : Result T Refusal) (had : Result P Refusal) (refusal : Refusal) (files : Seen Contents) (left : Option (List ℕ)) (faults : ℕ) → result ≡ Err refusal → had ≡ Err refusal → IsKept files → (had ≢ Err File → IsCounted files) → files.faults ≤ files.faults_after → Keeps (outside files (seen left left faults faults) no_sink) result
+of_program result had refusal files left faults is was kept counted rises = rw is record {
+  files = kept;
+  source = λ before. refl;
+  sink = λ other. refl;
+  files_count = λ other. counted (λ same. other cc);
+  source_count = λ other. refl;
+  sink_count = λ other. refl;
+  monotone = record { files = rises; source = omega arith; sink = omega arith };
+}
+
+-- a source that refuses its packet was read
+not_before : (refusal : Refusal) (before after : Option (List ℕ)) (fails : Type 0) → RefusesPacket before after fails refusal → IsBeforeRead refusal → ⊥
+not_before Arguments before after fails h b = h
+not_before (Image fault) before after fails h b = h
+not_before Size before after fails h b = b
+not_before Read before after fails h b = b
+not_before Write before after fails h b = h
+not_before File before after fails h b = h
+not_before Memory before after fails h b = b
+
+-- no packet was had of the source
+pub of_packet : {P T : Type 0} (result : Result T Refusal) (had : Result P Refusal) (refusal : Refusal) (files : Seen Contents) (source : Seen (Option (List ℕ))) (fails : Type 0) → result ≡ Err refusal → had ≡ Err refusal → IsKept files → IsCounted files → files.faults ≤ files.faults_after → RefusesPacket source.before source.after fails refusal → (had ≢ Err Read → IsCounted source) → source.faults ≤ source.faults_after → Keeps (outside files source no_sink) result
+of_packet result had refusal files source fails is was kept files_counted files_rises refused counted rises = rw is record {
+  files = kept;
+  source = λ before. absurd (not_before refusal _ _ fails refused before);
+  sink = λ other. refl;
+  files_count = λ other. files_counted;
+  source_count = λ other. counted (λ same. other cc);
+  sink_count = λ other. refl;
+  monotone = record { files = files_rises; source = rises; sink = omega arith };
+}
+
+-- the packet was had, and memory ran out
+pub of_line : {T : Type 0} (result : Result T Refusal) (files : Seen Contents) (source : Seen (Option (List ℕ))) → IfErr result (λ refusal. refusal ≡ Memory) → IsKept files → IsCounted files → files.faults ≤ files.faults_after → IsCounted source → source.faults ≤ source.faults_after → Keeps (outside files source no_sink) result
+of_line (Ok line) files source memory kept files_counted files_rises counted rises = record {
+  files = kept;
+  source = tt;
+  sink = tt;
+  files_count = λ other. files_counted;
+  source_count = λ other. counted;
+  sink_count = λ other. refl;
+  monotone = record { files = files_rises; source = rises; sink = omega arith };
+}
+of_line (Err refusal) files source memory kept files_counted files_rises counted rises = record {
+  files = kept;
+  source = λ before. absurd (rw memory at before);
+  sink = λ other. refl;
+  files_count = λ other. files_counted;
+  source_count = λ other. counted;
+  sink_count = λ other. refl;
+  monotone = record { files = files_rises; source = rises; sink = omega arith };
+}
+
+-- ---- why a packet is refused
+
+has_image : (files : Contents) (name bytes : List ℕ) (program : Program) → elf bytes ≡ Ok program → IfSome files (λ file_of. file_of name ≡ Some bytes) → HasImage files name
+has_image None name bytes program e is = tt
+has_image (Some file_of) name bytes program e is = rw (is, e) refl
+
+-- behind an image
+pub refused_packet : (files : Seen Contents) (source : Seen (Option (List ℕ))) (name bytes : List ℕ) (program : Program) → elf bytes ≡ Ok program → IfSome files.before (λ file_of. file_of name ≡ Some bytes) → (refusal : Refusal) → RefusesPacket source.before source.after (Fails source) refusal → Refuses (outside files source no_sink) name refusal
+refused_packet files source name bytes program e is Arguments h = h
+refused_packet files source name bytes program e is (Image fault) h = absurd h
+refused_packet files source name bytes program e is Size h = (has_image files.before name bytes program e is, h)
+refused_packet files source name bytes program e is Read h = (has_image files.before name bytes program e is, h.0, h.1)
+refused_packet files source name bytes program e is Write h = absurd h
+refused_packet files source name bytes program e is File h = absurd h
+refused_packet files source name bytes program e is Memory h = h
+
+-- ---- what answers it
+
+left_is : (left after : Option (List ℕ)) (packet : List ℕ) → IfSome left (λ bytes. (bytes ≡ packet) × (after ≡ Some [])) → IfSome left (λ bytes. bytes ≡ packet)
+left_is None after packet h = tt
+left_is (Some bytes) after packet h = h.0
+
+-- the line of the run of the file's image on the source's bytes
+pub call_line : (result : Result (String Global) Refusal) (files : Contents) (left after : Option (List ℕ)) (name bytes : List ℕ) (program : Program) (packet : List ℕ) → elf bytes ≡ Ok program → IfSome files (λ file_of. file_of name ≡ Some bytes) → length packet ≤ packet_limit → IfSome left (λ bytes. (bytes ≡ packet) × (after ≡ Some [])) → IfOk result (λ line. IsRunLine program packet (string_bytes line)) → IfOk result (λ line. IsCallLine files left name (string_bytes line))
+call_line (Ok line) files left after name bytes program packet e is short read run = record {
+  bytes = bytes;
+  program = program;
+  packet = packet;
+  file_is = is;
+  image_is = e;
+  packet_is = left_is left after packet read;
+  short = short;
+  run = run;
+}
+call_line (Err refusal) files left after name bytes program packet e is short read run = tt
