@@ -1,6 +1,7 @@
 -- Turns of the machine from what its next instruction does.
 use Rattle.std.proofs.Common.{◌≡◌, ℕ, refl, ap}
-use Rattle.machine_model.specs.Instruction.{IsNext, Retires, Raises}
+use Rattle.machine_model.specs.Hypercall.{outcome, Unknown}
+use Rattle.machine_model.specs.Instruction.{IsNext, Retires, Raises, Calls, environment_call}
 use Rattle.machine_model.specs.Machine.{Machine}
 use Rattle.machine_model.specs.Run.{Goes, Stops, IsTurn}
 use Rattle.machine_model.specs.declared.stop.Stop.TheVariants.{Exception}
@@ -15,4 +16,13 @@ trapped_turn clock cause tval old new n same = record {
   next = Raises cause tval;
   is_next = n;
   turn_is = ap (Stops (Exception cause old.pc tval) 0) same;
+}
+
+pub unknown_turn : (clock number : ℕ) (old new : Machine) → IsNext old Calls →
+    outcome old clock ≡ Unknown number → new ≡ old →
+    IsTurn old clock (Stops (Exception environment_call old.pc number) 0 new)
+unknown_turn clock number old new n unknown same = record {
+  next = Calls;
+  is_next = n;
+  turn_is = rw (unknown, same) refl;
 }

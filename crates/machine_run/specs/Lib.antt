@@ -1,3 +1,4 @@
 pub mod Continued
+pub mod Ending
 pub mod Frames
 pub mod Turns

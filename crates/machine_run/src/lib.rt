@@ -1,6 +1,7 @@
 //! Runs: the instructions of a hart over any space, one after another, up to the first stop.
 #![tactic(auto)]
 
+mod ends;
 mod limits;
 mod part_laws;
 mod running;

@@ -6,9 +6,10 @@ ghost use Rattle.space_api.specs.Flat.{Flat, Traffic, machine_of};
 ghost use Rattle.machine_run.specs.Continued.{limits_of, woken, RunsTo, RunsOn, Pauses};
 ghost use Rattle.machine_run.specs.Frames.{WantsFrames, Spent};
 
+use crate::ends::{AtTurn, at_turn, end_before};
 use crate::limits::{Limits, Progress, RunEnd};
 use crate::steps::Steps;
-use crate::turn::{Turn, take_turn};
+use crate::turn::take_turn;
 use hyper_calls::Ports;
 use space_api::{Hart, Space};
 use std::sync::ledger::Ledger;
@@ -18,18 +19,6 @@ const A0: u8 = 10;
 
 /// The result of a wait that ends.
 const PACKET_QUEUED: u64 = 1;
-
-/// Whether a run stops at its trigger.
-#[inline]
-fn is_at(hart: &Hart, trigger: Option<u64>, number: u64) -> bool
-    ensures { (flat : Flat) (traffic : Traffic) →
-        result ≡ at_trigger trigger number (machine_of hart.now flat traffic) }
-{
-    match trigger {
-        Some(a) => number >= 1 && hart.pc == a,
-        None => false,
-    }
-}
 
 /// Ends the wait of a hart that rests, where a packet is queued.
 fn wake(hart: &mut Hart, ports: &Ports)
@@ -89,43 +78,22 @@ fn turns<S: Space, L: Ledger>(
         (machine_of hart.old (S.flat space.old) ports.old.traffic) (S.spares space.old)
         (S.spares space.new) }
 {
-    let trigger = limits.trigger;
     let mut number = from;
     'turns: loop {
-        if is_at(hart, trigger, number) {
-            return (RunEnd::Trigger, number);
+        if let Some(end) = end_before(hart, limits, until, number) {
+            return (end, number);
         }
-        if number == until {
-            if until == limits.budget {
-                return (RunEnd::Budget, number);
-            }
-            return (RunEnd::Paused, number);
-        }
-        match take_turn(hart, space, ports) {
-            Turn::Goes => {
+        let turn = take_turn(hart, space, ports);
+        match at_turn(turn, hart.pc) {
+            AtTurn::Goes => {
                 steps.tick();
                 number += 1;
             }
-            Turn::Rest => {
+            AtTurn::Counted(end) => {
                 steps.tick();
-                return (RunEnd::Rest, number + 1);
+                return (end, number + 1);
             }
-            Turn::Halt(code) => {
-                steps.tick();
-                return (RunEnd::Halt(code), number + 1);
-            }
-            Turn::Fault { cause, tval } => {
-                return (
-                    RunEnd::Fault {
-                        cause,
-                        pc: hart.pc,
-                        tval,
-                    },
-                    number,
-                );
-            }
-            Turn::NeedFrames => return (RunEnd::NeedFrames, number),
-            Turn::Memory => return (RunEnd::Memory, number),
+            AtTurn::Uncounted(end) => return (end, number),
         }
     }
 }

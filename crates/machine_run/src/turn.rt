@@ -1,6 +1,10 @@
 //! One turn of a run: an instruction, with its hypercall if it is one.
 
-ghost use Rattle.std.specs.Prelude.{◌≡◌, ◌≢◌, ◌≤◌};
+ghost use Rattle.std.specs.Prelude.{◌≡◌, ◌≢◌, ◌≤◌, ◌↔◌, ℕ};
+ghost use Rattle.hyper_calls.specs.Outcomes.{ComesTo};
+ghost use Rattle.machine_model.specs.Hypercall.{outcome};
+ghost use Rattle.machine_model.specs.Instruction.{IsNext, Calls};
+ghost use Rattle.machine_model.specs.Machine.{Machine};
 ghost use Rattle.space_api.specs.Flat.{machine_of};
 ghost use Rattle.machine_run.specs.Frames.{WantsFrames, TurnSpends};
 ghost use Rattle.machine_run.specs.Turns.{TurnDoes};
@@ -14,7 +18,7 @@ use space_api::{Hart, Space};
 const ENVIRONMENT_CALL: u64 = 8;
 
 /// What a turn came to.
-#[derive(Clone, Copy, Debug, PartialEq, Eq)]
+#[derive(Clone, Copy)]
 pub enum Turn {
     /// The instruction is done, and the run goes on.
     Goes,
@@ -28,6 +32,28 @@ pub enum Turn {
     NeedFrames,
     /// Memory ran out. Nothing was done.
     Memory,
+}
+
+/// What a turn comes to whose hypercall ended so.
+#[inline]
+fn turn_of(end: CallEnd) -> Turn
+    ensures does { (clock : ℕ) (old new : Machine) → IsNext old Calls →
+        ComesTo end old new (outcome old clock) → TurnDoes result clock old new }
+    ensures goes { (result ≡ Turn.Goes) ↔ (end ≡ CallEnd.Done) }
+    ensures rest { end ≡ CallEnd.Rest → result ≡ Turn.Rest }
+    ensures frames { result ≡ Turn.NeedFrames → end ≡ CallEnd.NeedFrames }
+{
+    match end {
+        CallEnd::Done => Turn::Goes,
+        CallEnd::Rest => Turn::Rest,
+        CallEnd::Halt(code) => Turn::Halt(code),
+        CallEnd::BadCall(number) => Turn::Fault {
+            cause: ENVIRONMENT_CALL,
+            tval: number,
+        },
+        CallEnd::NeedFrames => Turn::NeedFrames,
+        CallEnd::Memory => Turn::Memory,
+    }
 }
 
 /// Does the next instruction.
@@ -47,17 +73,7 @@ pub fn take_turn<S: Space>(hart: &mut Hart, space: &mut S, ports: &mut Ports) ->
 {
     match step(hart, space) {
         StepEnd::Retired => Turn::Goes,
-        StepEnd::Call => match call(hart, space, ports) {
-            CallEnd::Done => Turn::Goes,
-            CallEnd::Rest => Turn::Rest,
-            CallEnd::Halt(code) => Turn::Halt(code),
-            CallEnd::BadCall(number) => Turn::Fault {
-                cause: ENVIRONMENT_CALL,
-                tval: number,
-            },
-            CallEnd::NeedFrames => Turn::NeedFrames,
-            CallEnd::Memory => Turn::Memory,
-        },
+        StepEnd::Call => turn_of(call(hart, space, ports)),
         StepEnd::Trap { cause, tval } => Turn::Fault { cause, tval },
         StepEnd::NeedFrames => Turn::NeedFrames,
         StepEnd::Memory => Turn::Memory,

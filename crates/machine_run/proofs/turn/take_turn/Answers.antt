@@ -39,8 +39,8 @@ returns-in-Retired-clause-spent g c e =
     store_spends g.S.Space.need _ _ _ old c.in-Retired.ensures.spares
     (c.in-Retired.ensures.frames traffic)
 
-pub returns-in-Done-clause-spent : goal.returns-in-Done-clause-spent
-returns-in-Done-clause-spent g c e =
+pub returns-in-Call-clause-spent : goal.returns-in-Call-clause-spent
+returns-in-Call-clause-spent g c e =
     let traffic = c.args.ports.now.traffic in
     let old = machine_of c.args.hart.now (g.S.Space.flat c.args.space.now) traffic in
     let here = machine_of c.step.new.hart (g.S.Space.flat c.step.new.space) traffic in
@@ -51,8 +51,8 @@ returns-in-Done-clause-spent g c e =
     subst (λ m. IsNext m Calls) (sym same) (c.in-Call.ensures.does traffic) in
     let new = g.S.Space.spares c.call.new.space in
     let turn : TurnSpends g.S.Space.need (g.S.Space.spares c.step.new.space) new here =
-    read_spends g.S.Space.need _ _ here calls c.in-Done.ensures.others
-    c.in-Done.ensures.spent.0 c.in-Done.ensures.spent.1 in
+    read_spends g.S.Space.need _ _ here calls c.call.ensures.others
+    c.call.ensures.spent.0 c.call.ensures.spent.1 in
     let from : TurnSpends g.S.Space.need (g.S.Space.spares c.args.space.now) new here =
     subst (λ n. TurnSpends g.S.Space.need n new here) spares turn in
     subst (λ m. TurnSpends g.S.Space.need (g.S.Space.spares c.args.space.now) new m) same from
