@@ -1,0 +1,5 @@
+pub mod Folds
+pub mod Frames
+pub mod Looks
+pub mod Recents
+pub mod Sound

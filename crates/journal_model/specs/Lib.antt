@@ -1,0 +1,6 @@
+pub mod Bounds
+pub mod Extents
+pub mod Frames
+pub mod Legal
+pub mod Line
+pub mod State

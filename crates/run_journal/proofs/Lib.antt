@@ -1,0 +1,5 @@
+pub mod Digits
+pub mod ReadBack
+pub mod Lines
+pub mod Lists
+pub mod Verdicts
