@@ -1,0 +1,21 @@
+//! Plans: what a server is to run, as plain data. In `specs/` what holds of each plan, and which
+//! layers a layer stands on.
+#![tactic(auto)]
+
+mod function;
+mod layer;
+mod numbers;
+mod plan;
+mod stacks;
+mod text;
+
+pub use function::{Names, PlanFunction};
+pub use image_model::Start;
+pub use layer::{Packets, PlanLayer};
+pub use machine_model::Packet;
+pub use numbers::Numbers;
+pub use plan::Plan;
+pub use text::Text;
+
+#[cfg(test)]
+mod tests;
