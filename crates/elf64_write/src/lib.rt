@@ -1,0 +1,9 @@
+//! An image, written as an ELF file that is read back to it.
+#![tactic(auto)]
+
+mod write;
+
+pub use write::write_image;
+
+#[cfg(test)]
+mod tests;

@@ -1,0 +1,17 @@
+-- Eight hexadecimal digits of a number.
+use Rattle.std.proofs.Common.{◌≡◌, ℕ, ◌^◌, ◌-◌, ◌++◌, List, [], false, length, refl, arith, replicate}
+use Rattle.std.specs.Fmt.{padded_integral, format_spec, digits, char_count}
+use Rattle.std.proofs.lemmas.List.{append-nil}
+use Rattle.rv_asm.specs.Disassembly.{eight_digits}
+
+padded : (shown : List ℕ)
+    → padded_integral (format_spec 32 0 4 8 (2 ^ 64 - 1)) false [] shown
+    ≡ replicate (8 - length shown) 48 ++ shown
+unfolding padded_integral char_count
+padded shown = let e : 8 - length shown - 0 - 0 ≡ 8 - length shown = omega arith in rw (e, append-nil) refl
+
+pub eight : (n : ℕ)
+    → padded_integral (format_spec 32 0 4 8 (2 ^ 64 - 1)) false [] (digits 16 false n)
+    ≡ eight_digits n
+unfolding eight_digits
+eight n = padded (digits 16 false n)
