@@ -1,0 +1,6 @@
+pub mod Counts
+pub mod Opening
+pub mod Owners
+pub mod Parts
+pub mod Reach
+pub mod Rules

@@ -1,0 +1,41 @@
+-- The rule as a table of words keeps it, and what each step tells the holder that takes it. A
+-- step names its frame and word by the place of the word that it loads or stores.
+use Rattle.std.specs.Prelude.{◌≡◌, ℕ, ◌*◌, ◌%◌, ◌<◌, List, length}
+use Rattle.atomic_table.specs.Table.{State, Me, Step}
+use Rattle.frame_model.specs.declared.kind.Kind.{Kind}
+use Rattle.frame_model.specs.declared.view.View.{View}
+use Rattle.frame_model.specs.Words.{frames_in, meta_place, word_place, kind_number}
+use Rattle.frame_model.specs.Views.{kind_of, word_of, IsSound}
+use Rattle.frame_model.specs.Rule.{FrameRule}
+use Rattle.frame_words.specs.Steps.{put, dressed}
+
+-- the table has 513 words a frame, and the rule holds of them and of all views
+pub record Kept (n : ℕ) (s : State (Unit {0}) View) : Type 0 where
+  pub size : length s.words ≡ n * 513
+  pub rule : FrameRule n (frames_in s.words) s.views
+
+abbrev pub Mine : Type 0
+Mine = Me (Unit {0}) View
+
+-- the view is as it was, and it told the word that was found
+pub record Looked (s : Step (Unit {0})) (me : Mine) (found : ℕ) (now : Mine) : Type 0 where
+  pub same : now ≡ me
+  pub word : (f i : ℕ) → i < 512 → s.word ≡ word_place f i → found ≡ word_of me.0 f i
+
+-- the view is as it was, and it told the kind in the meta word that was found
+pub record LookedAtMeta (s : Step (Unit {0})) (me : Mine) (found : ℕ) (now : Mine) : Type 0 where
+  pub same : now ≡ me
+  pub kind : (f : ℕ) → s.word ≡ meta_place f → found % 256 ≡ kind_number (kind_of me.0 f)
+
+-- the view knows the word that was stored
+pub record DidPut (s : Step (Unit {0})) (me : Mine) (found : ℕ) (now : Mine) : Type 0 where
+  pub slots : now.1 ≡ me.1
+  pub view : (f i : ℕ) → i < 512 → s.word ≡ word_place f i → now.0 ≡ put me.0 f i s.first
+  pub sound : IsSound now.0
+
+-- the view knows the kind that was stored
+pub record DidDress (s : Step (Unit {0})) (me : Mine) (found : ℕ) (now : Mine) : Type 0 where
+  pub slots : now.1 ≡ me.1
+  pub view : (f : ℕ) (kind : Kind) → s.word ≡ meta_place f → s.first ≡ kind_number kind
+      → now.0 ≡ dressed me.0 f kind
+  pub sound : IsSound now.0

@@ -1,0 +1,24 @@
+//! Frames that many holders reach, counted and given back, by single atomic steps. Each step
+//! keeps the rule of `frame_model` over the words and the views of all holders.
+#![tactic(auto)]
+
+mod holder;
+mod law;
+mod opening;
+mod part;
+mod peek;
+mod place;
+mod table;
+mod write;
+
+pub use frame_model::{Frame, Kind, View};
+pub use holder::Holder;
+pub use machine_model::Memory;
+pub use opening::MOST_FRAMES;
+pub use part::Part;
+pub use peek::{peek_meta, peek_word};
+pub use table::FrameTable;
+pub use write::{dress, put_word};
+
+#[cfg(test)]
+mod tests;
