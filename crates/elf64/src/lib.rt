@@ -15,6 +15,3 @@ pub use elf_laws::{entry_is_sound, memory_is_no_fault, segments_are_sound};
 pub use fault::{ElfFault, ImageFault};
 pub use image_model::{Bytes, Image, Segment, Segments};
 pub use read::read_image;
-
-#[cfg(test)]
-mod tests;

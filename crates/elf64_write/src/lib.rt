@@ -6,4 +6,6 @@ mod write;
 pub use write::write_image;
 
 #[cfg(test)]
+mod read_tests;
+#[cfg(test)]
 mod tests;

@@ -1,7 +1,7 @@
 //! Files from outside: what is accepted, and what is one field away from it. Expected values are
 //! by hand, from the table of faults.
 
-use super::*;
+use elf64::{ElfFault, Image, ImageFault, Segment, read_image};
 use std::alloc::{AllocError, Global};
 use std::test::Fail;
 
