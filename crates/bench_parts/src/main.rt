@@ -1,25 +1,31 @@
 //! Parts of the server that no command runs yet, by themselves, so that they can be measured:
-//! `judge FILE` judges the journal whose event lines the file has.
+//! `judge FILE` judges the journal whose event lines the file has, and `plan FILE` reads a plan.
 #![tactic(auto)]
 
 mod journal;
+mod plan;
 mod problem;
 
 use crate::problem::Problem;
 use edge_io::StdFiles;
-use run_journal::Judged;
 use std::alloc::Global;
 use std::env::Env;
 use std::process::ExitCode;
 use std::{env, rt};
 
-/// What the words after the program's name ask for.
-fn measured<R: Env + rt::Files + Alloc<A = Global>>(rt: &R) -> Result<Judged, Problem> {
-    let words: Vec<String> = env::args(rt)?.collect(rt.alloc())?;
+/// What came of the part that the words after the program's name ask for.
+fn measured<R: Env + rt::Files + Alloc<A = Global>>(rt: &R) -> Result<String, Problem> {
+    let alloc = rt.alloc();
+    let words: Vec<String> = env::args(rt)?.collect(alloc)?;
     let mut files = StdFiles::new(rt);
     match words.as_slice() {
         [_, part, file] if part.as_str() == "judge" => {
-            journal::judge_file(rt.alloc(), &mut files, file.as_str())
+            let verdict = journal::judge_file(alloc, &mut files, file.as_str())?;
+            Ok(format!(in alloc; "{verdict:?}")?)
+        }
+        [_, part, file] if part.as_str() == "plan" => {
+            let (layers, functions) = plan::read_plan_file(alloc, &mut files, file.as_str())?;
+            Ok(format!(in alloc; "{layers} layers, {functions} functions")?)
         }
         _ => Err(Problem::Words),
     }
@@ -28,7 +34,7 @@ fn measured<R: Env + rt::Files + Alloc<A = Global>>(rt: &R) -> Result<Judged, Pr
 /// Does what the words ask for, and prints what came of it. Status 1 where it couldn't be done.
 fn main(rt: HostRuntime) -> ExitCode {
     let printed = match measured(&rt) {
-        Ok(verdict) => println!(rt; "{verdict:?}"),
+        Ok(text) => println!(rt; "{text}"),
         Err(problem) => {
             let _ = eprintln!(rt; "bench_parts: {problem}");
             return ExitCode::FAILURE;

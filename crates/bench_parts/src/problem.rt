@@ -9,10 +9,12 @@ use thiserror::Error;
 /// Why a part wasn't measured.
 #[derive(Debug, Drop, Error)]
 pub enum Problem {
-    #[error("the words are: judge FILE")]
+    #[error("the words are: judge FILE, or plan FILE")]
     Words,
     #[error("{0}")]
     File(FileFault),
+    #[error("the file has no plan, or one of its images is none")]
+    Plan,
     #[error("line {0} is no event")]
     Line(usize),
     #[error("out of memory")]
