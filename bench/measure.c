@@ -1,8 +1,8 @@
 /*
- * measure ROUNDS OUTPUT COMMAND [WORD..]: runs the command so many times, with no input and
- * its output to the file OUTPUT, and prints the least wall-clock time of a run in nanoseconds
- * and the largest memory that one held, in KiB. Ends with 1 where a run can't be started or
- * ends with another status than 0.
+ * measure ROUNDS INPUT OUTPUT COMMAND [WORD..]: runs the command so many times, with the file
+ * INPUT as its input and its output to the file OUTPUT, and prints the least wall-clock time of a
+ * run in nanoseconds and the largest memory that one held, in KiB. Ends with 1 where a run can't
+ * be started or ends with another status than 0.
  */
 #include <fcntl.h>
 #include <stdio.h>
@@ -18,8 +18,8 @@ static long long now(void) {
     return t.tv_sec * 1000000000LL + t.tv_nsec;
 }
 
-static void run(const char *output, char **command) {
-    int in = open("/dev/null", O_RDONLY);
+static void run(const char *input, const char *output, char **command) {
+    int in = open(input, O_RDONLY);
     int out = open(output, O_WRONLY | O_CREAT | O_TRUNC, 0600);
     if (in < 0 || out < 0 || dup2(in, 0) < 0 || dup2(out, 1) < 0) _exit(1);
     execvp(command[0], command);
@@ -29,9 +29,9 @@ static void run(const char *output, char **command) {
 int main(int argc, char **argv) {
     long long least = -1;
     long most = 0;
-    int rounds = argc > 3 ? atoi(argv[1]) : 0;
+    int rounds = argc > 4 ? atoi(argv[1]) : 0;
     if (rounds < 1) {
-        fprintf(stderr, "usage: measure ROUNDS OUTPUT COMMAND [WORD..]\n");
+        fprintf(stderr, "usage: measure ROUNDS INPUT OUTPUT COMMAND [WORD..]\n");
         return 1;
     }
     for (int round = 0; round < rounds; round++) {
@@ -39,7 +39,7 @@ int main(int argc, char **argv) {
         int status;
         long long begin = now();
         pid_t child = fork();
-        if (child == 0) run(argv[2], argv + 3);
+        if (child == 0) run(argv[2], argv[3], argv + 4);
         if (child < 0 || wait4(child, &status, 0, &use) < 0) return 1;
         long long took = now() - begin;
         if (!WIFEXITED(status) || WEXITSTATUS(status) != 0) return 1;

@@ -1,8 +1,8 @@
-# The program of echo.elf: it sends the packet that it was called with back, and halts.
-# Its one segment is 0x10000 rwx 4096: 4096 bytes from 0x10000 on, which may be read,
-# written and executed. They begin with these twelve words, and the run begins at the
-# first of them. The packet is kept in the same segment, from 0x10100 on.
+# Sends the packet that it was called with back, and halts. Its one segment may be read, written
+# and executed; it has 4096 bytes from 0x10000 on. They begin with these twelve words, and the
+# run begins at the first of them. The packet is kept in the same segment, from 0x10100 on.
 
+.segment 0x10000 rwx 4096
     addi s0, x0, 1          # s0 = 1
     slli s0, s0, 16         # s0 = 0x10000, the segment's first address
 

@@ -14,7 +14,7 @@ most=5
 # that is no edit for a bad one, so they stand here.
 exceptions() {
     cat <<'END'
-seuss_top 11 run_plain that always answers one status, 1 to 6, is refused status by status
+seuss_top 7 run_plain that always answers one status, 1 to 6, is refused status by status
 END
 }
 

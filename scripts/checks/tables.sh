@@ -6,7 +6,8 @@ cd -- "$top" || exit 1
 
 # The words that an assembler makes of the example's text are the last 48 bytes of its image.
 same_words() {
-    riscv64-unknown-elf-as -march=rv64i -mno-relax -o "$work/echo.o" examples/echo.s &&
+    sed "/^\.segment/d" examples/echo.s >"$work/echo.s" &&
+        riscv64-unknown-elf-as -march=rv64i -mno-relax -o "$work/echo.o" "$work/echo.s" &&
         riscv64-unknown-elf-objcopy -O binary -j .text "$work/echo.o" "$work/echo.bin" &&
         [ "$(wc -c <"$work/echo.bin")" -eq 48 ] &&
         tail -c 48 examples/echo.elf | cmp - "$work/echo.bin"

@@ -1,7 +1,9 @@
 //! Parts of the server that no command runs yet, by themselves, so that they can be measured:
-//! `judge FILE` judges the journal whose event lines the file has, and `plan FILE` reads a plan.
+//! `judge FILE` judges the journal whose event lines the file has, `plan FILE` reads a plan,
+//! `frames open COUNT` opens a table of so many frames, and `frames STEP COUNT` takes steps on one.
 #![tactic(auto)]
 
+mod frames;
 mod journal;
 mod plan;
 mod problem;
@@ -26,6 +28,10 @@ fn measured<R: Env + rt::Files + Alloc<A = Global>>(rt: &R) -> Result<String, Pr
         [_, part, file] if part.as_str() == "plan" => {
             let (layers, functions) = plan::read_plan_file(alloc, &mut files, file.as_str())?;
             Ok(format!(in alloc; "{layers} layers, {functions} functions")?)
+        }
+        [_, part, step, count] if part.as_str() == "frames" => {
+            let told = frames::frames_part(alloc, step.as_str(), count.as_str())?;
+            Ok(format!(in alloc; "{told}")?)
         }
         _ => Err(Problem::Words),
     }

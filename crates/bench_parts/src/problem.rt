@@ -9,7 +9,7 @@ use thiserror::Error;
 /// Why a part wasn't measured.
 #[derive(Debug, Drop, Error)]
 pub enum Problem {
-    #[error("the words are: judge FILE, or plan FILE")]
+    #[error("the words are: judge FILE, plan FILE, frames open COUNT, or frames STEP COUNT")]
     Words,
     #[error("{0}")]
     File(FileFault),

@@ -1,11 +1,10 @@
 -- What a call owes to the table: that its word is there, and that its step is allowed.
-use Rattle.std.proofs.Common.{◌≡◌, ℕ, ◌+◌, ◌*◌, ◌%◌, ◌<◌, ◌≤◌, List, [], ◌∷◌, length, replicate, refl, sym, ap, subst, ◌∙◌, arith}
+use Rattle.std.proofs.Common.{◌≡◌, ℕ, ◌*◌, ◌<◌, ◌≤◌, List, [], ◌∷◌, length, replicate, refl, sym, ap, subst, ◌∙◌, arith}
 use Rattle.std.proofs.lemmas.List.{length-replicate}
 use mathlib.Core.Option.{none}
-use Rattle.atomic_table.specs.Table.{State, step, Allows, opening}
+use Rattle.atomic_table.specs.Table.{step, Allows, opening}
 use Rattle.frame_model.specs.declared.kind.Kind.{Kind}
 use Rattle.frame_model.specs.declared.kind.Kind.TheVariants.{Data}
-use Rattle.frame_model.specs.declared.view.View.{View}
 use Rattle.frame_model.specs.Words.{frames_in, meta_place, word_place, kind_number}
 use Rattle.frame_model.specs.Views.{Has, kind_of, reach, first_view, IsSound, IsLoose}
 use Rattle.frame_model.specs.Rule.{most_frames, FrameRule}
@@ -13,7 +12,7 @@ use Rattle.frame_model.proofs.Opening.{opening_rule}
 use Rattle.frame_model.proofs.Reach.{within_front, has_left}
 use Rattle.frame_model.proofs.Rules.{sound}
 use Rattle.frame_words.specs.Steps.{IsClear}
-use Rattle.frame_words.specs.Plays.{Kept, Mine, Looked, LookedAtMeta, DidPut, DidDress}
+use Rattle.frame_words.specs.Plays.{Kept, Mine, Looked, LookedAgain, LookedAtMeta, DidPut, DidDress}
 use Rattle.frame_words.proofs.Keeps as rule
 
 pub opens : (n : ℕ) (ws : List ℕ) → ws ≡ replicate (n * 513) 0 → n ≤ most_frames → Kept n (opening {S = Unit {0}} ws [] (first_view n))
@@ -24,6 +23,16 @@ opens n ws is most = record {
 
 pub first_is_sound : (n : ℕ) → n ≤ most_frames → IsSound (first_view n)
 first_is_sound n most = sound n (frames_in (replicate (n * 513) 0)) (first_view n ∷ []) (opening_rule n most) 0 (first_view n) refl
+
+-- a table of some frames has a word
+pub has_word : (n words : ℕ) → 0 < n → words ≡ n * 513 → 0 < words
+has_word n words some size = omega arith
+
+pub same_frames : (n k : ℕ) → n * 513 ≡ k * 513 → n ≡ k
+same_frames n k e = omega arith
+
+pub looks_again : (n slots id : ℕ) (me : Mine) → Allows (Kept n) slots id me 0 (λ x. x) (LookedAgain (step slots 0 0 0 none) me)
+looks_again = rule.looks_again
 
 module _ (key words slots id : ℕ) (me : Mine) (is : IsSound me.0) (size : words ≡ me.0.frames * 513) (place f : ℕ) where
   owned_is_reached : Has f me.0.owned → Has f (reach me.0)

@@ -1,22 +1,22 @@
 -- Each step of a holder keeps the rule, and tells what it is said to tell.
-use Rattle.std.proofs.Common.{◌≡◌, ℕ, zero, suc, ◌+◌, ◌*◌, ◌/◌, ◌%◌, ◌^◌, ◌<◌, ◌≤◌, ◌≢◌, ◌⊎◌, Bool, true, false, List, [], ◌∷◌, ◌++◌, length, get_or, set, refl, sym, ap, subst, ◌∙◌, inl, inr, ⊎_elim, arith, length-set, get_or-set_other, get_or-set_same}
+use Rattle.std.proofs.Common.{◌≡◌, ℕ, zero, suc, ◌+◌, ◌*◌, ◌/◌, ◌%◌, ◌<◌, ◌≢◌, List, [], ◌∷◌, length, get_or, set, refl, sym, ap, subst, ◌∙◌, ⊎_elim, arith, length-set, get_or-set_other, get_or-set_same}
 use mathlib.Core.Option.{some, none}
 use lib.ListN.{get_elem?}
 use Rattle.std.proofs.lemmas.Bool.{cases_eq}
-use Rattle.atomic_table.specs.Table.{State, Me, Step, step, keeps, stepped, Allows}
-use Rattle.atomic_table.proofs.Lists.{set_again, set_here, at_index}
+use Rattle.atomic_table.specs.Table.{State, step, keeps, stepped, Allows}
+use Rattle.atomic_table.proofs.Lists.{set_again, set_here}
 use Rattle.frame_model.specs.declared.kind.Kind.{Kind}
 use Rattle.frame_model.specs.declared.kind.Kind.TheVariants.{Data, Leaf, Mid, Root}
 use Rattle.frame_model.specs.declared.view.View.{View}
 use Rattle.frame_model.specs.Words.{Frames, frames_in, meta_place, word_place, kind_number, kind_at, count_at, IsMeta, IsEntryAt, names, target}
-use Rattle.frame_model.specs.Views.{Has, known_of, kind_of, words_of, word_of, targets, targets_by_kind, targets_of, reach, with_known, IsSound, IsLoose}
-use Rattle.frame_model.specs.Rule.{At, Agrees, Descends, FrameRule}
+use Rattle.frame_model.specs.Views.{Has, kind_of, words_of, word_of, targets, targets_by_kind, reach, IsLoose}
+use Rattle.frame_model.specs.Rule.{At, Descends, FrameRule}
 use Rattle.frame_model.proofs.Counts.{names_data, names_zero, names_same, names_true, links_some}
 use Rattle.frame_model.proofs.Reach.{targets_zero, by_kind_none, kind_number_most}
 use Rattle.frame_model.proofs.Owners.{owned_reached, loose_count}
 use Rattle.frame_model.proofs.Rules.{sound}
 use Rattle.frame_words.specs.Steps.{put, dressed, IsClear}
-use Rattle.frame_words.specs.Plays.{Kept, Mine, Looked, LookedAtMeta, DidPut, DidDress}
+use Rattle.frame_words.specs.Plays.{Kept, Mine, Looked, LookedAgain, LookedAtMeta, DidPut, DidDress}
 use Rattle.frame_words.proofs.Places as places
 use Rattle.frame_words.proofs.News.{IsNews, news_kept, at_length}
 
@@ -54,6 +54,16 @@ module _ (n : ℕ) (slots id : ℕ) (me : Mine) where
           let w = (kept.rule.agrees id me.0 at).word f i h lt in
           w ∙ (λ q. word_of me.0 (p.0 q) (p.1 q));
     },
+  )
+
+  -- a load that tells no word
+  pub looks_again : Allows (Kept n) slots id me 0 (λ x. x) (LookedAgain (step slots 0 0 0 none) me)
+  looks_again s kept _ at _ = (
+    me.0,
+    keeps,
+    tt,
+    stays n s id me 0 kept at,
+    record { same = refl; sound = sound n (frames_in s.words) s.views kept.rule id me.0 at },
   )
 
   pub looks_at_meta : (f : ℕ) → Has f (reach me.0)

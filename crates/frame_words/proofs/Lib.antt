@@ -1,6 +1,9 @@
 pub mod Calls
+pub mod FourFrames
 pub mod Keeps
 pub mod News
 pub mod Partings
 pub mod Places
+pub mod Shares
 pub mod Splits
+pub mod Unions

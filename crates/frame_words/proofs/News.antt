@@ -1,6 +1,6 @@
 -- A step after which the words of one frame are others, and the view that owns it knows it. Its
 -- targets and its count are those that it had.
-use Rattle.std.proofs.Common.{◌≡◌, ℕ, zero, suc, ◌+◌, ◌<◌, ◌≤◌, ◌≢◌, ◌⊎◌, Bool, true, false, List, [], ◌∷◌, ◌++◌, length, get_or, set, refl, sym, ap, subst, ◌∙◌, inl, inr, ⊎_elim, arith}
+use Rattle.std.proofs.Common.{◌≡◌, ℕ, zero, suc, ◌<◌, ◌≤◌, ◌≢◌, List, [], ◌∷◌, ◌++◌, length, get_or, set, refl, sym, ap, subst, ◌∙◌, inl, inr, ⊎_elim, arith}
 use mathlib.Core.Option.{some, some-ne-none, some-injective}
 use lib.ListN.{get_elem?}
 use Rattle.atomic_table.proofs.Lists.{at_set, set_here, set_else}
@@ -8,10 +8,10 @@ use Rattle.std.proofs.lemmas.Bool.{cases_eq}
 use Rattle.frame_model.specs.declared.kind.Kind.{Kind}
 use Rattle.frame_model.specs.declared.view.Known.{Known}
 use Rattle.frame_model.specs.declared.view.View.{View}
-use Rattle.frame_model.specs.Words.{Frames, kind_number, kind_at, count_at, IsMeta, names, links}
-use Rattle.frame_model.specs.Views.{Has, times, forget, known_of, kind_of, words_of, word_of, targets_by_kind, targets_of, within, reach, IsStaked, with_known}
+use Rattle.frame_model.specs.Words.{Frames, kind_number, kind_at, count_at, IsMeta, names}
+use Rattle.frame_model.specs.Views.{Has, times, forget, known_of, targets_by_kind, targets_of, reach, IsStaked, with_known}
 use Rattle.frame_model.specs.Rule.{At, total, Agrees, IsNamedByOwn, IsHeldOnce, Descends, FrameRule}
-use Rattle.frame_model.proofs.Reach.{has_left, within_front, known_here, known_else, forget_else, in_forget, news_within}
+use Rattle.frame_model.proofs.Reach.{known_here, known_else, forget_else, in_forget, news_within}
 use Rattle.frame_model.proofs.Counts.{links_same, total_set}
 
 pub at_length : {A : Type 0} (l : List A) (i : ℕ) (a : A) → get_elem? l i ≡ some a → i < length l

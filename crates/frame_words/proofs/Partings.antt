@@ -1,13 +1,13 @@
 -- A view that is cut in two keeps the rule.
-use Rattle.std.proofs.Common.{◌≡◌, ℕ, zero, suc, ◌+◌, ◌*◌, ◌<◌, ◌≤◌, ◌≢◌, ◌⊎◌, Bool, true, false, List, [], ◌∷◌, ◌++◌, length, get_or, set, refl, sym, ap, subst, ◌∙◌, inl, inr, ⊎_elim, arith, length-set}
+use Rattle.std.proofs.Common.{◌≡◌, ℕ, zero, suc, ◌+◌, ◌<◌, ◌≤◌, ◌≢◌, ◌⊎◌, List, [], ◌∷◌, ◌++◌, length, set, refl, sym, subst, ◌∙◌, inl, inr, ⊎_elim, arith, length-set}
 use mathlib.Core.Option.{some, some-ne-none, some-injective}
 use lib.ListN.{get_elem?}
 use Rattle.atomic_table.proofs.Lists.{at_set, set_here, set_else, at_longer, at_last}
 use Rattle.std.proofs.lemmas.Bool.{cases_eq}
 use Rattle.frame_model.specs.declared.view.View.{View}
-use Rattle.frame_model.specs.Words.{Frames, count_at, names}
-use Rattle.frame_model.specs.Views.{Has, times, reach, part_of, IsStaked, IsSound, IsEntryOf}
-use Rattle.frame_model.specs.Rule.{At, total, Agrees, IsNamedByOwn, IsHeldOnce, Descends, FrameRule}
+use Rattle.frame_model.specs.Words.{Frames, count_at}
+use Rattle.frame_model.specs.Views.{Has, times, reach, part_of, IsStaked, IsSound}
+use Rattle.frame_model.specs.Rule.{At, total, Agrees, IsHeldOnce, FrameRule}
 use Rattle.frame_model.proofs.Counts.{total_set}
 use Rattle.frame_words.proofs.News.{at_length, one_at}
 

@@ -1,6 +1,6 @@
 -- Which word of the table is which of a frame, and what a store of one leaves of the others.
-use Rattle.std.proofs.Common.{◌≡◌, ℕ, ◌+◌, ◌*◌, ◌<◌, ◌≤◌, ◌≢◌, List, length, set, get_or, refl, sym, ap, ◌∙◌, arith, get_or-set_other, get_or-set_same}
-use Rattle.frame_model.specs.Words.{Frames, frames_in, meta_place, word_place}
+use Rattle.std.proofs.Common.{◌≡◌, ℕ, ◌<◌, ◌≢◌, List, length, set, arith, get_or-set_other, get_or-set_same}
+use Rattle.frame_model.specs.Words.{frames_in, meta_place, word_place}
 
 pub one_word : (f i g j : ℕ) → i < 512 → j < 512 → word_place f i ≡ word_place g j → (f ≡ g) × (i ≡ j)
 one_word f i g j h k e = (omega arith, omega arith)

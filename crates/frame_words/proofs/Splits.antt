@@ -1,12 +1,11 @@
 -- What a split may name is a parting of the holder's view.
-use Rattle.std.proofs.Common.{◌≡◌, ℕ, zero, suc, ◌+◌, ◌-◌, ◌*◌, ◌<◌, ◌≤◌, ◌≢◌, ◌⊎◌, Bool, true, false, List, [], ◌∷◌, ◌++◌, length, get_or, set, refl, sym, ap, subst, ◌∙◌, inl, inr, ⊎_elim, arith}
+use Rattle.std.proofs.Common.{◌≡◌, ℕ, ◌+◌, ◌-◌, ◌<◌, ◌≤◌, ◌≢◌, ◌⊎◌, true, List, [], ◌∷◌, ◌++◌, length, refl, sym, ap, subst, inl, inr, ⊎_elim, arith}
 use Rattle.std.proofs.lemmas.Bool.{cases_eq}
-use Rattle.frame_model.specs.declared.kind.Kind.{Kind}
 use Rattle.frame_model.specs.declared.kind.Kind.TheVariants.{Data}
 use Rattle.frame_model.specs.declared.view.View.{View}
-use Rattle.frame_model.specs.Words.{Frames, kind_number, kind_at, count_at, names}
-use Rattle.frame_model.specs.Views.{Has, times, known_of, kind_of, words_of, targets_of, within, reach, part_of, among, without, less_one, IsStaked, IsSound, IsLoose}
-use Rattle.frame_model.specs.Rule.{At, Agrees, IsNamedByOwn, IsHeldOnce, FrameRule}
+use Rattle.frame_model.specs.Words.{Frames, kind_number, count_at, names}
+use Rattle.frame_model.specs.Views.{Has, times, known_of, kind_of, words_of, targets_of, reach, part_of, among, without, less_one, IsStaked, IsSound, IsLoose}
+use Rattle.frame_model.specs.Rule.{At, IsNamedByOwn, FrameRule}
 use Rattle.frame_model.proofs.Reach.{has_left, has_right, has_append, has_by_kind, within_front, within_inside, within_parent, within_closed, kind_number_most, dec_has, has_targets}
 use Rattle.frame_model.proofs.Parts.{has_among, has_without, among_has, without_has, times_parts, length_parts, has_less, less_has, times_less, length_less}
 use Rattle.frame_model.proofs.Owners.{named, owned_reached, loose_count, child_link, link_child, no_link, one_holder, one_table}

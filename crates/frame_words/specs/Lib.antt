@@ -1,3 +1,4 @@
 pub mod Holders
 pub mod Plays
+pub mod Rows
 pub mod Steps

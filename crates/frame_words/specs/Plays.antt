@@ -1,6 +1,6 @@
 -- The rule as a table of words keeps it, and what each step tells the holder that takes it. A
 -- step names its frame and word by the place of the word that it loads or stores.
-use Rattle.std.specs.Prelude.{◌≡◌, ℕ, ◌*◌, ◌%◌, ◌<◌, List, length}
+use Rattle.std.specs.Prelude.{◌≡◌, ℕ, ◌*◌, ◌%◌, ◌<◌, length}
 use Rattle.atomic_table.specs.Table.{State, Me, Step}
 use Rattle.frame_model.specs.declared.kind.Kind.{Kind}
 use Rattle.frame_model.specs.declared.view.View.{View}
@@ -21,6 +21,11 @@ Mine = Me (Unit {0}) View
 pub record Looked (s : Step (Unit {0})) (me : Mine) (found : ℕ) (now : Mine) : Type 0 where
   pub same : now ≡ me
   pub word : (f i : ℕ) → i < 512 → s.word ≡ word_place f i → found ≡ word_of me.0 f i
+
+-- the view is as it was, and it is sound
+pub record LookedAgain (s : Step (Unit {0})) (me : Mine) (found : ℕ) (now : Mine) : Type 0 where
+  pub same : now ≡ me
+  pub sound : IsSound now.0
 
 -- the view is as it was, and it told the kind in the meta word that was found
 pub record LookedAtMeta (s : Step (Unit {0})) (me : Mine) (found : ℕ) (now : Mine) : Type 0 where

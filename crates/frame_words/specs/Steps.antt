@@ -1,5 +1,5 @@
 -- What each step makes of the view of the holder that takes it. No other view changes.
-use Rattle.std.specs.Prelude.{◌≡◌, ℕ, zero, suc, ◌+◌, ◌-◌, ◌<◌, ◌≤◌, ◌⊎◌, Bool, true, false}
+use Rattle.std.specs.Prelude.{◌≡◌, ℕ, zero, suc, ◌+◌, ◌-◌, ◌<◌, ◌⊎◌, Bool, true, false}
 use Rattle.std.specs.Prelude.{List, [], ◌∷◌, ◌++◌, slice_set}
 use Rattle.frame_model.specs.declared.kind.Kind.{Kind}
 use Rattle.frame_model.specs.declared.kind.Kind.TheVariants.{Data}
@@ -51,33 +51,27 @@ root_alone true v root stake =
 root_alone false v root stake = part_of v [] (root ∷ []) stake
 
 -- what the holder keeps
-abbrev pub kept_of : Part → View → View
+unfoldable pub kept_of : Part → View → View
 kept_of (Pile first count stake) v =
     part_of v (without (pile_of v first.0 count) v.owned) v.references (v.stake - stake)
 kept_of (Root root stake) v = less_root (has root.0 v.owned) v root.0 stake
 
 -- what the new holder gets; it knows what the other knew
-abbrev pub given_of : Part → View → View
+unfoldable pub given_of : Part → View → View
 given_of (Pile first count stake) v =
     part_of v (among (pile_of v first.0 count) v.owned) [] stake
 given_of (Root root stake) v = root_alone (has root.0 v.owned) v root.0 stake
 
 -- a pile has owned data of count 0; a root is owned at count 0, or referred to
-abbrev pub IsThere : Part → View → Type 0
+unfoldable pub IsThere : Part → View → Type 0
 IsThere (Pile first count stake) v =
     (f : ℕ) → Has f (pile_of v first.0 count) → IsLoose v f × (kind_of v f ≡ Data)
 IsThere (Root root stake) v = IsLoose v root.0 ⊎ Has root.0 v.references
 
--- the part is there, and both keep a stake of at least 1
-pub record CanGo (part : Part) (v : View) : Type 0 where
-  pub there : IsThere part v
-  pub stake : 1 ≤ stake_of part
-  pub rest : stake_of part < v.stake
-
 -- ---- join
 
 -- all that both have. Of a frame that both reach it knows what v knew
-abbrev pub joined : View → View → View
+unfoldable pub joined : View → View → View
 joined v w = record {
   frames = v.frames;
   owned = v.owned ++ w.owned;
@@ -87,5 +81,5 @@ joined v w = record {
 }
 
 -- what is left of a view that was joined into another
-abbrev pub spent : View
+unfoldable pub spent : View
 spent = record { frames = 0; owned = []; references = []; known = []; stake = 0 }

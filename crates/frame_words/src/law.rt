@@ -50,3 +50,12 @@ impl Play<(), View> for Dress {
 
     ghost then = { DidDress };
 }
+
+/// A load that tells no word: what the view says is sound.
+pub struct LookAgain;
+
+impl Play<(), View> for LookAgain {
+    ghost use Rattle.frame_words.specs.Plays.{LookedAgain};
+
+    ghost then = { LookedAgain };
+}

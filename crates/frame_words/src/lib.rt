@@ -2,12 +2,14 @@
 //! keeps the rule of `frame_model` over the words and the views of all holders.
 #![tactic(auto)]
 
+mod cut;
 mod holder;
 mod law;
 mod opening;
 mod part;
 mod peek;
 mod place;
+mod sharing;
 mod table;
 mod write;
 
@@ -17,6 +19,8 @@ pub use machine_model::Memory;
 pub use opening::MOST_FRAMES;
 pub use part::Part;
 pub use peek::{peek_meta, peek_word};
+pub use place::{meta_place, word_place};
+pub use sharing::{join, split};
 pub use table::FrameTable;
 pub use write::{dress, put_word};
 

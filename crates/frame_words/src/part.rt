@@ -3,7 +3,7 @@
 use frame_model::Frame;
 
 /// A part of what a holder has, with the stake that goes along.
-#[derive(Clone, Copy, Debug)]
+#[derive(Drop)]
 pub enum Part {
     /// So many frames of a pile, from this one on, each of which names the next in its word 0.
     Pile {

@@ -1,6 +1,6 @@
 //! The table of all frames.
 
-ghost use Rattle.std.specs.Prelude.{◌≡◌, ◌*◌};
+ghost use Rattle.std.specs.Prelude.{◌≡◌, ◌*◌, ◌<◌};
 
 use crate::law::FrameLaw;
 use atomic_table::Table;
@@ -13,6 +13,7 @@ use std::alloc::Global;
 pub struct FrameTable {
     pub table: Table<(), View, u32, FrameLaw, Global>,
     pub frames: u32,
+    pub ghost some: { 0 < frames },
     pub ghost keyed: { table.shared.key ≡ frames },
     pub ghost sized: { table.shared.table_id.words ≡ frames * 513 },
 }

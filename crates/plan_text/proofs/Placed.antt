@@ -10,21 +10,21 @@ use Rattle.std.specs.Str.{bytes_eq}
 use Rattle.plan_model.specs.Outline.{AreLayers, AreFunctions}
 use Rattle.plan_model.specs.declared.function.PlanFunction.{PlanFunction}
 use Rattle.plan_model.specs.declared.layer.PlanLayer.{PlanLayer}
-use Rattle.plan_text.specs.Layers.{IsSound}
+use Rattle.plan_tables.specs.Layers.{IsSound}
 use Rattle.plan_text.specs.Names.{number_of}
 use Rattle.plan_text.specs.Placing.{placed_function, placed_functions, with_function, layer_names}
 use Rattle.plan_text.specs.Placing.{footing, lower_footing, placed_layer, placed_layers, layer_on}
 use Rattle.std.proofs.Common.{◌≢◌, Result, Ok, Err, IfOk, IfErr}
-use Rattle.plan_text.specs.Faults.{Tells}
+use Rattle.plan_tables.specs.Faults.{Tells}
 use Rattle.plan_text.specs.Placing.{images_of, image_names, are_well_named, names_fault}
 use Rattle.plan_text.specs.Placing.{below_fault}
-use Rattle.plan_text.specs.declared.fault.PlanFault.{PlanFault}
-use Rattle.plan_text.specs.declared.fault.PlanFault.TheVariants as faults
-use Rattle.plan_text.proofs.Prepending.{prepended, prepended_all}
-use Rattle.plan_text.specs.declared.function_table.FunctionText.{FunctionText}
-use Rattle.plan_text.specs.declared.layer_table.Base.{Base}
-use Rattle.plan_text.specs.declared.layer_table.Base.TheVariants.{Image, Below}
-use Rattle.plan_text.specs.declared.layer_table.LayerText.{LayerText}
+use Rattle.plan_tables.specs.declared.fault.PlanFault.{PlanFault}
+use Rattle.plan_tables.specs.declared.fault.PlanFault.TheVariants as faults
+use Rattle.plan_tables.proofs.Prepending.{prepended, prepended_all}
+use Rattle.plan_tables.specs.declared.function_table.FunctionText.{FunctionText}
+use Rattle.plan_tables.specs.declared.layer_table.Base.{Base}
+use Rattle.plan_tables.specs.declared.layer_table.Base.TheVariants.{Image, Below}
+use Rattle.plan_tables.specs.declared.layer_table.LayerText.{LayerText}
 
 -- ---- numbers of names
 

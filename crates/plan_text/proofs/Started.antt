@@ -11,8 +11,8 @@ use Rattle.image_model.specs.StartOf.{start_of}
 use Rattle.image_model.specs.declared.image.Image.{Image as Program}
 use Rattle.plan_text.specs.Images.{starts_of, with_start, file_image, image_within}
 use Rattle.plan_text.specs.Images.{no_totals, are_too_big}
-use Rattle.plan_text.specs.declared.fault.PlanFault.{PlanFault}
-use Rattle.plan_text.specs.declared.fault.PlanFault.TheVariants as faults
+use Rattle.plan_tables.specs.declared.fault.PlanFault.{PlanFault}
+use Rattle.plan_tables.specs.declared.fault.PlanFault.TheVariants as faults
 use Rattle.plan_text.specs.declared.images.Totals.{Totals}
 
 abbrev pub Contents : Type 0

@@ -8,8 +8,8 @@ use Rattle.elf64.specs.declared.fault.ElfFault.TheVariants.{TooBig}
 use Rattle.image_model.specs.Layout.{Layout}
 use Rattle.image_model.specs.StartOf.{start_of}
 use Rattle.image_model.specs.declared.image.Image.{Image as Program}
-use Rattle.plan_text.specs.declared.fault.PlanFault.{PlanFault}
-use Rattle.plan_text.specs.declared.fault.PlanFault.TheVariants as faults
+use Rattle.plan_tables.specs.declared.fault.PlanFault.{PlanFault}
+use Rattle.plan_tables.specs.declared.fault.PlanFault.TheVariants as faults
 use Rattle.plan_text.specs.declared.images.Totals.{Totals}
 
 -- all files of a plan have at most so many bytes together, and load at most as many

@@ -1,12 +1,5 @@
-pub mod FaultText
-pub mod Faults
-pub mod Functions
 pub mod Images
-pub mod Keys
-pub mod Layers
 pub mod Names
 pub mod Placing
 pub mod PlanText
 pub mod Sound
-pub mod Top
-pub mod Values

@@ -5,12 +5,12 @@ use Rattle.std.specs.Prelude.{Option, Some, None, option_map, option_and_then, s
 use Rattle.plan_model.specs.declared.function.PlanFunction.{PlanFunction}
 use Rattle.plan_model.specs.declared.layer.PlanLayer.{PlanLayer}
 use Rattle.plan_text.specs.Names.{are_names, number_of}
-use Rattle.plan_text.specs.declared.fault.PlanFault.{PlanFault}
-use Rattle.plan_text.specs.declared.fault.PlanFault.TheVariants as faults
-use Rattle.plan_text.specs.declared.function_table.FunctionText.{FunctionText}
-use Rattle.plan_text.specs.declared.layer_table.Base.{Base}
-use Rattle.plan_text.specs.declared.layer_table.Base.TheVariants.{Image, Below}
-use Rattle.plan_text.specs.declared.layer_table.LayerText.{LayerText}
+use Rattle.plan_tables.specs.declared.fault.PlanFault.{PlanFault}
+use Rattle.plan_tables.specs.declared.fault.PlanFault.TheVariants as faults
+use Rattle.plan_tables.specs.declared.function_table.FunctionText.{FunctionText}
+use Rattle.plan_tables.specs.declared.layer_table.Base.{Base}
+use Rattle.plan_tables.specs.declared.layer_table.Base.TheVariants.{Image, Below}
+use Rattle.plan_tables.specs.declared.layer_table.LayerText.{LayerText}
 
 -- ---- functions on layers
 

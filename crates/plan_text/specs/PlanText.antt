@@ -1,52 +1,20 @@
 -- What a plan's text and files are: a plan, or the first fault.
-use Rattle.std.specs.Prelude.{◌≡◌, ◌⊎◌, IsOk, ℕ, nat_lt, if◌then◌else◌, List, [], ◌∷◌, length, map}
+use Rattle.std.specs.Prelude.{◌≡◌, ◌⊎◌, IsOk, ℕ, List, [], ◌∷◌}
 use Rattle.std.specs.Prelude.{Option, Some, None, unwrap_or, Result, Ok, Err}
-use Rattle.std.specs.Str.{is_utf8}
 use Rattle.toml.specs.Data.{Members}
-use Rattle.toml.specs.Parse.{parse_document}
 use Rattle.image_model.specs.Layout.{Layout}
 use Rattle.plan_model.specs.Outline.{Outline}
 use Rattle.plan_model.specs.declared.function.PlanFunction.{PlanFunction}
 use Rattle.plan_model.specs.declared.layer.PlanLayer.{PlanLayer}
 use Rattle.plan_model.specs.declared.numbers.Numbers.{Numbers}
-use Rattle.plan_text.specs.Faults.{first_fault}
-use Rattle.plan_text.specs.Functions.{function_fault, texts}
+use Rattle.plan_tables.specs.Faults.{first_fault}
+use Rattle.plan_tables.specs.Tables.{document, each_table_fault, layers_at, functions_at}
+use Rattle.plan_tables.specs.Top.{numbers_at}
+use Rattle.plan_tables.specs.declared.fault.PlanFault.{PlanFault}
+use Rattle.plan_tables.specs.declared.fault.PlanFault.TheVariants as faults
 use Rattle.plan_text.specs.Images.{starts_of, no_totals}
-use Rattle.plan_text.specs.Layers.{layer_fault, layer_at}
 use Rattle.plan_text.specs.Placing.{names_fault, below_fault, placed_functions, placed_layers}
 use Rattle.plan_text.specs.Placing.{image_names}
-use Rattle.plan_text.specs.Top.{top_fault, numbers_at}
-use Rattle.plan_text.specs.Values.{tables_at}
-use Rattle.plan_text.specs.declared.fault.PlanFault.{PlanFault}
-use Rattle.plan_text.specs.declared.fault.PlanFault.TheVariants as faults
-use Rattle.plan_text.specs.declared.function_table.FunctionText.{FunctionText}
-use Rattle.plan_text.specs.declared.key.Key.TheVariants as keys
-use Rattle.plan_text.specs.declared.layer_table.LayerText.{LayerText}
-
--- ---- the document
-
-abbrev pub largest_text : ℕ
-largest_text = 1048576
-
--- the top table of a text that isn't too long and is a document of TOML
-unfoldable pub document : List ℕ → Option Members
-document bytes =
-    if nat_lt largest_text (length bytes) then None
-    else if is_utf8 bytes then parse_document bytes else None
-
--- ---- the tables
-
-unfoldable pub layers_fault : List Members → Option PlanFault
-layers_fault tables = first_fault (map layer_fault tables)
-
-unfoldable pub functions_fault : List Members → Option PlanFault
-functions_fault tables = first_fault (map function_fault tables)
-
-abbrev pub layers_at : Members → List LayerText
-layers_at members = map layer_at (tables_at keys.Layer members)
-
-abbrev pub functions_at : Members → List FunctionText
-functions_at members = map texts (tables_at keys.Function members)
 
 -- ---- the plan but for its images
 
@@ -58,13 +26,6 @@ pub record Sketch : Type 0 where
   pub images : List (List ℕ)
 
 -- first each table for itself, then what they say of each other
-unfoldable pub each_table_fault : Members → Option PlanFault
-each_table_fault members = first_fault (
-    top_fault members
-    ∷ layers_fault (tables_at keys.Layer members)
-    ∷ functions_fault (tables_at keys.Function members)
-    ∷ [])
-
 unfoldable pub sketch_fault : Members → Option PlanFault
 sketch_fault members = first_fault (
     each_table_fault members

@@ -11,11 +11,11 @@ ghost use Rattle.image_model.specs.declared.image.Image.{Image};
 ghost use Rattle.plan_text.specs.Images as spec;
 ghost use Rattle.plan_text.specs.PlanText.{IsOfImages};
 
-use crate::fault::PlanFault;
 use edge_files::{FileFault, Files};
 use elf64::{ElfFault, Image, ImageFault, Segment, entry_is_sound, read_image};
 use image_start::start_of;
 use plan_model::{Start, Text};
+use plan_tables::PlanFault;
 use std::alloc::Global;
 
 /// The most bytes of a file.
@@ -25,7 +25,7 @@ const FILE_LIMIT: u64 = 16_777_216;
 const TOTAL_LIMIT: u64 = 67_108_864;
 
 /// How many bytes the files so far have together, and how many of them are loaded.
-#[derive(Clone, Copy, Debug)]
+#[derive(Clone, Copy)]
 pub struct Totals {
     pub file_bytes: u64,
     pub loaded_bytes: u64,

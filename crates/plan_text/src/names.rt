@@ -5,9 +5,8 @@ ghost use Rattle.std.specs.List.{list_all, list_any};
 ghost use Rattle.std.specs.Str.{bytes_eq};
 ghost use Rattle.plan_text.specs.Names as spec;
 
-use crate::function_table::FunctionText;
-use crate::layer_table::LayerText;
 use plan_model::PlanLayer;
+use plan_tables::{FunctionText, LayerText};
 
 /// The most characters of a name.
 const LONGEST_NAME: usize = 32;

@@ -3,16 +3,14 @@
 ghost use Rattle.std.specs.Prelude.{◌≡◌, ◌≢◌, ◌<◌, ◌≤◌, ◌++◌, ◌∷◌, [], length, vec_len};
 ghost use Rattle.std.specs.Prelude.{Some, None, IfErr, IfOk, OnOk, map, option_and_then};
 ghost use Rattle.plan_model.specs.declared.layer.PlanLayer.{PlanLayer};
-ghost use Rattle.plan_text.specs.Faults.{Tells};
+ghost use Rattle.plan_tables.specs.Faults.{Tells};
 ghost use Rattle.plan_text.specs.Names.{number_of};
 ghost use Rattle.plan_text.specs.Placing as spec;
-ghost use Rattle.plan_text.specs.declared.fault.PlanFault.TheVariants as faults;
+ghost use Rattle.plan_tables.specs.declared.fault.PlanFault.TheVariants as faults;
 
-use crate::fault::PlanFault;
-use crate::function_table::FunctionText;
-use crate::layer_table::{Base, LayerText};
 use crate::names::{are_names, number_of};
 use plan_model::{PlanFunction, PlanLayer, Text};
+use plan_tables::{Base, FunctionText, LayerText, PlanFault};
 use std::alloc::Global;
 
 /// The functions on their layers; `Name` where a name is malformed or repeated in its kind, or a

@@ -5,11 +5,11 @@ ghost use Rattle.edge_streams.specs.Faults.{Rises};
 ghost use Rattle.plan_text.specs.PlanText as spec;
 ghost use Rattle.plan_text.specs.Sound.{IsOfText};
 
-use crate::fault::PlanFault;
 use crate::images::starts;
 use crate::sketch::read_sketch;
 use edge_files::Files;
 use plan_model::Plan;
+use plan_tables::PlanFault;
 use std::alloc::Global;
 
 /// The plan of a text, with what the files of its images start with, or its first fault in this

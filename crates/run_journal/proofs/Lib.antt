@@ -1,5 +1,3 @@
-pub mod Digits
-pub mod ReadBack
-pub mod Lines
+pub mod Debts
 pub mod Lists
 pub mod Verdicts

@@ -1,8 +1,6 @@
 -- Places of lists, and a number taken out of one.
 use Rattle.std.proofs.Common.{◌≡◌, ℕ, ◌+◌, ◌<◌, ◌≤◌, ◌==◌, Bool, true, false, cond, not, suc}
 use Rattle.std.proofs.Common.{List, [], ◌∷◌, ◌++◌, length, take, drop, remove, refl, ap, arith}
-use Rattle.std.proofs.Common.{get_or}
-use Rattle.std.proofs.lemmas.List.Sums.{position_or_len_is}
 use Rattle.std.specs.List.{position_or_len}
 use Rattle.journal_model.specs.State.{without}
 
@@ -35,9 +33,3 @@ unfolding without
 without_absent x [] h = refl
 without_absent x (y ∷ ys) h = past (y == x) y (position_or_len (λ (y : ℕ). y == x) ys)
     (without x ys) ys (λ k. without_absent x ys k) h
-
--- the first place that passes
-pub first : (p : ℕ → Bool) → (xs : List ℕ) (i : ℕ) (d : ℕ) → i ≤ length xs →
-    ((k : ℕ) → k < i → p (get_or xs k d) ≡ false) → (i < length xs → p (get_or xs i d) ≡ true) →
-    position_or_len p xs ≡ i
-first = position_or_len_is

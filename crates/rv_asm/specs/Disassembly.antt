@@ -9,8 +9,8 @@ use Rattle.instruction_model.specs.declared.instruction.Inst.TheVariants.{Lui, A
 use Rattle.instruction_model.specs.declared.instruction.Inst.TheVariants.{Branch, Load, Store}
 use Rattle.instruction_model.specs.declared.instruction.Inst.TheVariants.{OpImm, Op, OpImmW, OpW}
 use Rattle.instruction_model.specs.declared.instruction.Inst.TheVariants.{Fence, Ecall, Ebreak}
-use Rattle.rv_asm.specs.Names.{branch_name, load_name, store_name, imm_name, reg_name}
-use Rattle.rv_asm.specs.Names.{imm_w_name, reg_w_name}
+use Rattle.asm_words.specs.Names.{branch_name, load_name, store_name, imm_name, reg_name}
+use Rattle.asm_words.specs.Names.{imm_w_name, reg_w_name}
 
 -- ---- a line of each shape
 

@@ -1,9 +1,4 @@
+pub mod Answered
 pub mod Assembly
 pub mod Disassembly
-pub mod Named
-pub mod Names
-pub mod Numbers
-pub mod Registers
-pub mod Statement
-pub mod Text
 pub mod Worked

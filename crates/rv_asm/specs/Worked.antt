@@ -4,10 +4,10 @@ use Rattle.std.specs.Int.{w32, to_le_bytes}
 use Rattle.std.specs.List.{flat_map}
 use Rattle.image_model.specs.declared.image.Image.{Image}
 use Rattle.image_model.specs.declared.image.Segment.{Segment}
-use Rattle.rv_asm.specs.Assembly.{LineFault}
-use Rattle.rv_asm.specs.declared.fault.AsmKind.{AsmKind}
-use Rattle.rv_asm.specs.declared.fault.AsmKind.TheVariants.{BadShape, UnknownName, BadNumber}
-use Rattle.rv_asm.specs.declared.fault.AsmKind.TheVariants.{OutOfRange, TwiceDefined, Undefined}
+use Rattle.asm_program.specs.Reading.{LineFault}
+use Rattle.asm_lines.specs.declared.fault.AsmKind.{AsmKind}
+use Rattle.asm_lines.specs.declared.fault.AsmKind.TheVariants.{BadShape, UnknownName, BadNumber}
+use Rattle.asm_lines.specs.declared.fault.AsmKind.TheVariants.{OutOfRange, TwiceDefined, Undefined}
 
 -- the text with line feeds for bars
 abbrev pub of_lines : List ℕ → List ℕ

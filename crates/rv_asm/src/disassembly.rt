@@ -3,7 +3,7 @@
 ghost use Rattle.std.specs.Prelude.{◌≡◌, string_bytes, IfOk};
 ghost use Rattle.rv_asm.specs.Disassembly as model;
 
-use crate::name;
+use asm_words::name;
 use instruction_model::every_word;
 use rv_code::{Inst, decode};
 use std::alloc::{AllocError, Global};

@@ -1,20 +1,38 @@
 //! Why a text is no program.
 
-/// Why a line is refused.
-#[derive(Clone, Copy, Debug, PartialEq, Eq)]
-pub enum AsmKind {
-    /// The line has none of the forms of lines, or is a label, data or code outside a segment;
-    /// or the whole text makes no image.
-    BadShape,
-    /// The first word is no mnemonic or directive, or an operand is no register.
-    UnknownName,
-    /// An operand is no number.
-    BadNumber,
-    /// A number or an offset doesn't have a place where it stands, or a segment is longer than its
-    /// size.
-    OutOfRange,
-    /// A label, or the entry, is defined once more.
-    TwiceDefined,
-    /// A label is defined nowhere.
-    Undefined,
+ghost use Rattle.std.specs.Prelude.{◌≡◌};
+ghost use Rattle.rv_asm.specs.declared.fault.AsmFault.TheVariants.{Memory};
+
+use asm_lines::AsmKind;
+use std::alloc::AllocError;
+use std::error::Error;
+use std::fmt;
+
+/// Why a text is no program.
+#[derive(Clone, Copy, Debug)]
+pub enum AsmFault {
+    /// The first fault of the text: what is wrong with which line, from 1 on.
+    At { line: u32, kind: AsmKind },
+    /// Memory ran out. This is no fault of the text.
+    Memory,
+}
+
+impl fmt::Display for AsmFault {
+    /// `line N KIND`, or `out of memory`.
+    fn fmt<W: fmt::Write>(&self, f: &mut fmt::Formatter<W>) -> fmt::Result {
+        match self {
+            AsmFault::At { line, kind } => write!(f, "line {line} {kind}"),
+            AsmFault::Memory => f.write_str("out of memory"),
+        }
+    }
+}
+
+impl Error for AsmFault {}
+
+impl From<AllocError> for AsmFault {
+    ghost from_gives = { λ _ fault. fault ≡ Memory };
+
+    fn from(_error: AllocError) -> AsmFault {
+        AsmFault::Memory
+    }
 }

@@ -1,14 +1,14 @@
 //! Assembler text of RV64IM programs.
 #![tactic(auto)]
 
+mod assembler;
 mod disassembly;
 mod fault;
-mod mnemonic;
-mod name;
 
+pub use asm_lines::AsmKind;
+pub use assembler::assemble;
 pub use disassembly::disassemble;
-pub use fault::AsmKind;
-pub use mnemonic::{Directive, Mnemonic};
+pub use fault::AsmFault;
 
 #[cfg(test)]
 mod tests;

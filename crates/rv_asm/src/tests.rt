@@ -1,5 +1,5 @@
 //! Lines of instruction words, worked out by hand from the RISC-V unprivileged manual ("RV32/64G
-//! Instruction Set Listings").
+//! Instruction Set Listings"), and a text with its ELF file.
 
 use super::*;
 use std::test::Fail;
@@ -38,5 +38,40 @@ fn words_as_text(rt: HostRuntime) -> Result<(), Fail> {
         let line = disassemble(rt.alloc(), word)?;
         assert_eq!(rt; line.as_str(), text);
     }
+    Ok(())
+}
+
+/// The program that writes back the packet that it reads (`specs/Worked.antt`), as an ELF file:
+/// the file header, one program header, twelve words.
+const ECHO_FILE: &[u8; 168] = b"\
+    \x7fELF\x02\x01\x01\0\0\0\0\0\0\0\0\0\
+    \x02\0\xf3\0\x01\0\0\0\0\0\x01\0\0\0\0\0\
+    \x40\0\0\0\0\0\0\0\0\0\0\0\0\0\0\0\
+    \0\0\0\0\x40\0\x38\0\x01\0\0\0\0\0\0\0\
+    \x01\0\0\0\x07\0\0\0\x78\0\0\0\0\0\0\0\
+    \0\0\x01\0\0\0\0\0\0\0\x01\0\0\0\0\0\
+    \x30\0\0\0\0\0\0\0\0\x10\0\0\0\0\0\0\
+    \x01\0\0\0\0\0\0\0\
+    \x13\x04\x10\0\x13\x14\x04\x01\x13\x05\x04\x10\x93\x05\0\x40\
+    \x93\x08\x70\0\x73\0\0\0\x13\x05\x04\x10\x93\x08\x60\0\
+    \x73\0\0\0\x13\x05\0\0\x93\x08\x80\0\x73\0\0\0";
+
+#[test]
+fn a_text_as_a_file(rt: HostRuntime) -> Result<(), Fail> {
+    let text = ".segment 0x10000 rwx 4096\naddi s0, x0, 1\nslli s0, s0, 16\naddi a0, s0, 256\n\
+        addi a1, x0, 1024\naddi a7, x0, 7\necall\naddi a0, s0, 256\naddi a7, x0, 6\necall\n\
+        addi a0, x0, 0\naddi a7, x0, 8\necall\n";
+    let file = assemble(rt.alloc(), text)?;
+    assert_eq!(rt; file.as_slice(), ECHO_FILE.as_slice());
+    Ok(())
+}
+
+#[test]
+fn a_fault_as_text(rt: HostRuntime) -> Result<(), Fail> {
+    let shown = match assemble(rt.alloc(), "\nfoo") {
+        Ok(_) => String::new(rt.alloc()),
+        Err(fault) => fault.to_string(rt.alloc())?,
+    };
+    assert_eq!(rt; shown.as_str(), "line 2 UnknownName");
     Ok(())
 }

@@ -1,4 +1,5 @@
-//! From words to instructions.
+//! From words to instructions. A run decodes a word each turn, and that is half of its time where
+//! it isn't part of its loop: so what is here is inlined, wherever else words are decoded.
 
 ghost use Rattle.std.specs.Prelude.{◌≡◌, Some};
 ghost use Rattle.instruction_model.specs.Reading.{reading, i_imm, s_imm, b_offset, j_offset, rd_of};
@@ -13,6 +14,7 @@ use crate::{ImmOp, ImmWOp, Inst, operation};
 
 /// The instruction that a word is, with its fields; none where the word fits no row of the
 /// table. Each word that is some instruction's gives that instruction, which is the only one.
+#[inline(always)]
 pub fn decode(w: u32) -> Option<Inst>
     ensures decodes { Decodes w result }
     ensures only { (v : Inst) → IsWordOf w v → result ≡ Some v }
@@ -21,6 +23,7 @@ pub fn decode(w: u32) -> Option<Inst>
 }
 
 /// The instruction of a word, read off its fields.
+#[inline(always)]
 fn by_opcode(w: u32) -> Option<Inst>
     ensures { result ≡ reading w }
 {
@@ -54,6 +57,7 @@ fn by_opcode(w: u32) -> Option<Inst>
 // ---- the formats' fields
 
 /// The target register, bits 11..7.
+#[inline]
 fn rd(w: u32) -> u8
     ensures { result ≡ rd_of w }
 {
@@ -61,6 +65,7 @@ fn rd(w: u32) -> u8
 }
 
 /// The first source register, bits 19..15.
+#[inline]
 fn rs1(w: u32) -> u8
     ensures { result ≡ rs1_of w }
 {
@@ -68,6 +73,7 @@ fn rs1(w: u32) -> u8
 }
 
 /// The second source register, bits 24..20.
+#[inline]
 fn rs2(w: u32) -> u8
     ensures { result ≡ rs2_of w }
 {
@@ -75,6 +81,7 @@ fn rs2(w: u32) -> u8
 }
 
 /// An I-type word's immediate, bits 31..20, signed.
+#[inline]
 fn i_imm(w: u32) -> i32
     ensures { result ≡ i_imm w }
 {
@@ -82,6 +89,7 @@ fn i_imm(w: u32) -> i32
 }
 
 /// An S-type word's immediate, bits 31..25 and 11..7, signed.
+#[inline]
 fn s_imm(w: u32) -> i32
     ensures { result ≡ s_imm w }
 {
@@ -89,6 +97,7 @@ fn s_imm(w: u32) -> i32
 }
 
 /// A B-type word's offset, bits 31, 7, 30..25 and 11..8, signed and even.
+#[inline]
 fn b_offset(w: u32) -> i32
     ensures { result ≡ b_offset w }
 {
@@ -98,6 +107,7 @@ fn b_offset(w: u32) -> i32
 }
 
 /// A J-type word's offset, bits 31, 19..12, 20 and 30..21, signed and even.
+#[inline]
 fn j_offset(w: u32) -> i32
     ensures { result ≡ j_offset w }
 {
@@ -109,6 +119,7 @@ fn j_offset(w: u32) -> i32
 // ---- one function an opcode
 
 /// The instruction of a word with the opcode JALR, or none where no row fits.
+#[inline(always)]
 fn jalr(w: u32) -> Option<Inst>
     ensures { result ≡ jalr_of w }
 {
@@ -123,6 +134,7 @@ fn jalr(w: u32) -> Option<Inst>
 }
 
 /// The instruction of a word with the opcode BRANCH, or none where no row fits.
+#[inline(always)]
 fn branch(w: u32) -> Option<Inst>
     ensures { result ≡ branch_of w }
 {
@@ -136,6 +148,7 @@ fn branch(w: u32) -> Option<Inst>
 }
 
 /// The instruction of a word with the opcode LOAD, or none where no row fits.
+#[inline(always)]
 fn load(w: u32) -> Option<Inst>
     ensures { result ≡ load_of w }
 {
@@ -149,6 +162,7 @@ fn load(w: u32) -> Option<Inst>
 }
 
 /// The instruction of a word with the opcode STORE, or none where no row fits.
+#[inline(always)]
 fn store(w: u32) -> Option<Inst>
     ensures { result ≡ store_of w }
 {
@@ -162,6 +176,7 @@ fn store(w: u32) -> Option<Inst>
 }
 
 /// The instruction of a word with the opcode OP-IMM, or none where no row fits.
+#[inline(always)]
 fn op_imm(w: u32) -> Option<Inst>
     ensures { result ≡ op_imm_of w }
 {
@@ -175,6 +190,7 @@ fn op_imm(w: u32) -> Option<Inst>
 }
 
 /// An OP-IMM operation's immediate: a shift's amount, bits 25..20, and else the I-type's.
+#[inline]
 fn imm_of(op: ImmOp, w: u32) -> i32
     ensures { result ≡ imm_of op w }
 {
@@ -187,6 +203,7 @@ fn imm_of(op: ImmOp, w: u32) -> i32
 }
 
 /// The instruction of a word with the opcode OP, or none where no row fits.
+#[inline(always)]
 fn op(w: u32) -> Option<Inst>
     ensures { result ≡ op_of w }
 {
@@ -200,6 +217,7 @@ fn op(w: u32) -> Option<Inst>
 }
 
 /// The instruction of a word with the opcode OP-IMM-32, or none where no row fits.
+#[inline(always)]
 fn op_imm_w(w: u32) -> Option<Inst>
     ensures { result ≡ op_imm_w_of w }
 {
@@ -213,6 +231,7 @@ fn op_imm_w(w: u32) -> Option<Inst>
 }
 
 /// An OP-IMM-32 operation's immediate: a shift's amount, bits 24..20, and else the I-type's.
+#[inline]
 fn imm_w_of(op: ImmWOp, w: u32) -> i32
     ensures { result ≡ imm_w_of op w }
 {
@@ -223,6 +242,7 @@ fn imm_w_of(op: ImmWOp, w: u32) -> i32
 }
 
 /// The instruction of a word with the opcode OP-32, or none where no row fits.
+#[inline(always)]
 fn op_w(w: u32) -> Option<Inst>
     ensures { result ≡ op_w_of w }
 {
@@ -236,6 +256,7 @@ fn op_w(w: u32) -> Option<Inst>
 }
 
 /// The instruction of a word with the opcode MISC-MEM: a fence, or none.
+#[inline(always)]
 fn fence(w: u32) -> Option<Inst>
     ensures { result ≡ fence_of w }
 {
@@ -250,6 +271,7 @@ fn fence(w: u32) -> Option<Inst>
 }
 
 /// The instruction of a word with the opcode SYSTEM: ECALL, EBREAK, or none.
+#[inline(always)]
 fn system(w: u32) -> Option<Inst>
     ensures { result ≡ system_of w }
 {

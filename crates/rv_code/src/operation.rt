@@ -86,6 +86,7 @@ pub(crate) fn reg_op(funct3: u32, funct7: u32) -> Option<RegOp>
 }
 
 /// The operation of the base set, funct7 0, or none.
+#[inline]
 fn base_op(funct3: u32) -> Option<RegOp>
     ensures { result ≡ base_op funct3 }
 {
@@ -103,6 +104,7 @@ fn base_op(funct3: u32) -> Option<RegOp>
 }
 
 /// The operation of the M extension, funct7 1.
+#[inline]
 fn multiply_op(funct3: u32) -> Option<RegOp>
     ensures { result ≡ multiply_op funct3 }
 {
@@ -120,6 +122,7 @@ fn multiply_op(funct3: u32) -> Option<RegOp>
 }
 
 /// The operation with funct7 32, SUB or SRA, or none.
+#[inline]
 fn other_op(funct3: u32) -> Option<RegOp>
     ensures { result ≡ other_op funct3 }
 {
@@ -157,6 +160,7 @@ pub(crate) fn reg_w_op(funct3: u32, funct7: u32) -> Option<RegWOp>
 }
 
 /// The W operation of the base set, funct7 0, or none.
+#[inline]
 fn base_w_op(funct3: u32) -> Option<RegWOp>
     ensures { result ≡ base_w_op funct3 }
 {
@@ -169,6 +173,7 @@ fn base_w_op(funct3: u32) -> Option<RegWOp>
 }
 
 /// The W operation of the M extension, funct7 1, or none.
+#[inline]
 fn multiply_w_op(funct3: u32) -> Option<RegWOp>
     ensures { result ≡ multiply_w_op funct3 }
 {
@@ -183,6 +188,7 @@ fn multiply_w_op(funct3: u32) -> Option<RegWOp>
 }
 
 /// The W operation with funct7 32, SUBW or SRAW, or none.
+#[inline]
 fn other_w_op(funct3: u32) -> Option<RegWOp>
     ensures { result ≡ other_w_op funct3 }
 {

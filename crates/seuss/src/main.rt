@@ -3,9 +3,9 @@
 #![tactic(auto)]
 
 ghost use Rattle.std.specs.Prelude.{◌≡◌, drop};
-ghost use Rattle.seuss_top.specs.Ending.{Reports};
-ghost use Rattle.seuss_top.specs.Outside.{seen};
-ghost use Rattle.seuss_top.specs.Refusals.{line_of, status_of};
+ghost use Rattle.command_parts.specs.Ending.{Reports};
+ghost use Rattle.command_parts.specs.Outside.{seen};
+ghost use Rattle.command_parts.specs.Refusals.{line_of, status_of};
 
 use edge_io::{Sink, StdFiles, StdSink, StdSource};
 use seuss_top::{Plain, Refusal, report, run_plain};
@@ -66,6 +66,3 @@ fn main(rt: HostRuntime) -> ExitCode {
     };
     ExitCode::from(status)
 }
-
-#[cfg(test)]
-mod tests;

@@ -1,7 +1,3 @@
-pub mod Ends
-pub mod Executions
-pub mod Files
-pub mod Kept
-pub mod Packets
+pub mod Commands
 pub mod Statuses
 pub mod Told

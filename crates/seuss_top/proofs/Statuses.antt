@@ -1,14 +1,11 @@
 -- What the statuses 1 to 7 say of a refusal, and 0 of an answer.
-use Rattle.std.proofs.Common.{◌≡◌, ◌≢◌, ℕ, ◌≤◌, ◌⊎◌, ◌↔◌, List, length, Option, Result, Ok, Err, refl, ap, inl, inr, arith}
-use Rattle.machine_model.specs.Hypercall.{packet_limit}
-use Rattle.seuss_top.specs.Call.{Answers, CallEnds}
-use Rattle.seuss_top.specs.Ending.{Reports}
-use Rattle.seuss_top.specs.Outside.{Outside, Seen, IsKept}
-use Rattle.seuss_top.specs.Refusals.{line_of, status_of, IsBeforeRead}
-use Rattle.seuss_top.specs.declared.command.Plain.TheVariants.{Done}
-use Rattle.seuss_top.specs.declared.refusal.Refusal.{Refusal}
-use Rattle.seuss_top.specs.declared.refusal.Refusal.TheVariants.{Arguments, Image, Size, Read, Write, File, Memory}
-use Rattle.seuss_top.proofs.Ends.{none_is, not_both, same_bytes}
+use Rattle.std.proofs.Common.{◌≡◌, ◌≢◌, ◌⊎◌, ◌↔◌, ℕ, List, Option, Result, Ok, Err, refl, ap, inl, inr}
+use Rattle.command_parts.specs.Ending.{Reports}
+use Rattle.command_parts.specs.Outside.{Seen}
+use Rattle.command_parts.specs.Refusals.{line_of, status_of, IsBeforeRead}
+use Rattle.command_parts.specs.declared.ending.Plain.TheVariants.{Done}
+use Rattle.command_parts.specs.declared.refusal.Refusal.{Refusal}
+use Rattle.command_parts.specs.declared.refusal.Refusal.TheVariants.{Arguments, Image, Line, Size, Read, Write, File, Memory}
 
 -- ---- a refusal
 
@@ -20,21 +17,23 @@ module _ (P : Type 0) where
   pub refused_no_form : {T : Type 0} (refusal : Refusal) → (◌≡◌ {A = Result T Refusal} (Err refusal) (Err Arguments)) ↔ P → (Done (status_of refusal) ≡ Done 1) ↔ P
   refused_no_form Arguments iff = (λ e. iff.0 refl, λ p. refl)
   refused_no_form (Image fault) iff = another (Image fault) (λ e. cc) (λ e. cc) iff
+  refused_no_form (Line number kind) iff = another (Line number kind) (λ e. cc) (λ e. cc) iff
   refused_no_form Size iff = another Size (λ e. cc) (λ e. cc) iff
   refused_no_form Read iff = another Read (λ e. cc) (λ e. cc) iff
   refused_no_form Write iff = another Write (λ e. cc) (λ e. cc) iff
   refused_no_form File iff = another File (λ e. cc) (λ e. cc) iff
   refused_no_form Memory iff = another Memory (λ e. cc) (λ e. cc) iff
 
-  -- 1, 2 and 6 come before the source is read
-  pub refused_source : (refusal : Refusal) → (IsBeforeRead refusal → P) → (Done (status_of refusal) ≡ Done 1) ⊎ (Done (status_of refusal) ≡ Done 2) ⊎ (Done (status_of refusal) ≡ Done 6) → P
+  -- 1 and 6 come before the source is read
+  pub refused_source : (refusal : Refusal) → (IsBeforeRead refusal → P) → (Done (status_of refusal) ≡ Done 1) ⊎ (Done (status_of refusal) ≡ Done 6) → P
   refused_source Arguments keep ends = keep tt
-  refused_source (Image fault) keep ends = keep tt
-  refused_source Size keep ends = elim ends [ inl e ↦ absurd cc | inr e ↦ elim e [ inl f ↦ absurd cc | inr f ↦ absurd cc ] ]
-  refused_source Read keep ends = elim ends [ inl e ↦ absurd cc | inr e ↦ elim e [ inl f ↦ absurd cc | inr f ↦ absurd cc ] ]
-  refused_source Write keep ends = elim ends [ inl e ↦ absurd cc | inr e ↦ elim e [ inl f ↦ absurd cc | inr f ↦ absurd cc ] ]
+  refused_source (Image fault) keep ends = elim ends [ inl e ↦ absurd cc | inr e ↦ absurd cc ]
+  refused_source (Line number kind) keep ends = elim ends [ inl e ↦ absurd cc | inr e ↦ absurd cc ]
+  refused_source Size keep ends = elim ends [ inl e ↦ absurd cc | inr e ↦ absurd cc ]
+  refused_source Read keep ends = elim ends [ inl e ↦ absurd cc | inr e ↦ absurd cc ]
+  refused_source Write keep ends = elim ends [ inl e ↦ absurd cc | inr e ↦ absurd cc ]
   refused_source File keep ends = keep tt
-  refused_source Memory keep ends = elim ends [ inl e ↦ absurd cc | inr e ↦ elim e [ inl f ↦ absurd cc | inr f ↦ absurd cc ] ]
+  refused_source Memory keep ends = elim ends [ inl e ↦ absurd cc | inr e ↦ absurd cc ]
 
   -- of the refusals only 5 wrote
   pub refused_sink : (refusal : Refusal) → (refusal ≢ Write → P) → Done (status_of refusal) ≢ Done 5 → P
@@ -49,6 +48,7 @@ module _ (P : Type 0) where
 pub refused_usage : (refusal : Refusal) (errs : Seen (Option (List ℕ))) → Reports (line_of refusal) errs → Done (status_of refusal) ≡ Done 1 → Reports (line_of Arguments) errs
 refused_usage Arguments errs reported e = reported
 refused_usage (Image fault) errs reported e = absurd cc
+refused_usage (Line number kind) errs reported e = absurd cc
 refused_usage Size errs reported e = absurd cc
 refused_usage Read errs reported e = absurd cc
 refused_usage Write errs reported e = absurd cc
@@ -64,23 +64,8 @@ module _ (P : Type 0) where
   pub done_differs : Done 0 ≡ Done 1 → P
   done_differs e = absurd cc
 
-  pub done_source : (Done 0 ≡ Done 1) ⊎ (Done 0 ≡ Done 2) ⊎ (Done 0 ≡ Done 6) → P
-  done_source ends = elim ends [ inl e ↦ absurd cc | inr e ↦ elim e [ inl f ↦ absurd cc | inr f ↦ absurd cc ] ]
+  pub done_source : (Done 0 ≡ Done 1) ⊎ (Done 0 ≡ Done 6) → P
+  done_source ends = elim ends [ inl e ↦ absurd cc | inr e ↦ absurd cc ]
 
   pub done_sink : Done 0 ≢ Done 0 → P
   done_sink differs = absurd (differs refl)
-
--- an answer ends with 0
-pub done_ends : (o : Outside) (errs : Seen (Option (List ℕ))) (name : List ℕ) → Answers o name → IsKept errs → CallEnds o errs name (Done 0)
-done_ends o errs name h kept = record {
-  done = λ e. (h, kept);
-  refused = inl refl;
-  missing = λ none. absurd (none_is o.files.before name h.line_is.bytes none h.line_is.file_is);
-  image = λ bytes fault tells e. absurd (not_both bytes h.line_is.bytes fault h.line_is.program (same_bytes o.files.before name bytes h.line_is.bytes tells h.line_is.file_is) e h.line_is.image_is);
-  size = λ bytes packet program tells e left long.
-      let same : packet ≡ h.line_is.packet = rw left at h.line_is.packet_is in
-      let size : length packet ≡ length h.line_is.packet = ap length same in
-      let short : length h.line_is.packet ≤ packet_limit = h.line_is.short in
-      absurd (omega arith);
-  complete = λ bytes packet program tells e left short f s k. inl refl;
-}

@@ -1,5 +1,5 @@
 -- What is told by the outside, and what is known.
-use Rattle.std.proofs.Common.{◌≡◌, ℕ, ◌<◌, ◌≤◌, List, [], ◌∷◌, length, get_or, Option, Some, None, Result, Ok, Err, IfSome, OnOk, Bool, true, nat_eq, refl, sym, ◌∙◌, subst, arith}
+use Rattle.std.proofs.Common.{◌≡◌, ℕ, ◌↔◌, ◌<◌, ◌≤◌, List, [], ◌∷◌, length, get_or, Option, Some, None, Result, Ok, Err, IfSome, OnOk, Bool, true, nat_eq, refl, sym, ◌∙◌, subst, arith}
 use Rattle.std.proofs.lemmas.Slice.Eq.{bytes_eq-Decides}
 use Rattle.std.specs.Cmp.Lexicographic.{pointwise}
 use Rattle.std.specs.Global.{Global}
@@ -30,3 +30,20 @@ two_texts (a ∷ b ∷ c ∷ rest) command image h k p q = absurd (omega arith)
 -- two texts that compare as equal are
 pub same_text : (a b : List ℕ) (r : Bool) → r ≡ pointwise nat_eq a b → r ≡ true → a ≡ b
 same_text a b r e t = (bytes_eq-Decides a b).0 (sym e ∙ t)
+
+-- one word
+pub one_text : (words : List (String Global)) (only : String Global) → 1 ≤ length words → length words < 2 → only ≡ get_or words 0 only → texts words ≡ string_bytes only ∷ []
+one_text [] only h k p = absurd (omega arith)
+one_text (a ∷ []) only h k p = rw p refl
+one_text (a ∷ b ∷ rest) only h k p = absurd (omega arith)
+
+-- whether one word is another
+pub one_is : (words : List (String Global)) (only : String Global) (text word : List ℕ) (r : Bool) → 1 ≤ length words → length words < 2 → only ≡ get_or words 0 only → text ≡ string_bytes only → r ≡ pointwise nat_eq text word → (r ≡ true) ↔ (texts words ≡ word ∷ [])
+one_is words only text word r h k p value e =
+    let one : texts words ≡ string_bytes only ∷ [] = one_text words only h k p in (
+      λ t. let same = same_text text word r e t in rw (one, sym value, same) refl,
+      λ is.
+          let both : string_bytes only ∷ [] ≡ word ∷ [] = sym one ∙ is in
+          let same : string_bytes only ≡ word = cc in
+          e ∙ (bytes_eq-Decides text word).1 (value ∙ same),
+    )

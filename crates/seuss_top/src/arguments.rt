@@ -1,9 +1,8 @@
 //! The forms of the program's arguments.
 
-ghost use Rattle.std.specs.Prelude.{ℕ, ◌↔◌, List, IsTrue, MatchOption};
+ghost use Rattle.std.specs.Prelude.{◌≡◌, ℕ, ◌↔◌, List, [], ◌∷◌, IsTrue, MatchOption};
 ghost use Rattle.seuss_top.specs.Arguments.{texts, IsFileName};
-ghost use Rattle.seuss_top.specs.Call.{IsCall};
-ghost use Rattle.seuss_top.specs.Command.{IsCommand, HaveNoForm, command_of};
+ghost use Rattle.seuss_top.specs.Command.{IsCall, IsCommand, HaveNoForm, command_of};
 
 use crate::command::Command;
 
@@ -30,11 +29,29 @@ fn called_image(arguments: &[String]) -> Option<&str>
     }
 }
 
+/// Whether the arguments are this word alone.
+fn is_only(arguments: &[String], word: &str) -> bool
+    ensures { IsTrue result ↔ (texts arguments.now ≡ word.now ∷ []) }
+{
+    match arguments {
+        [only] => only.as_str() == word,
+        _ => false,
+    }
+}
+
 /// The command that the arguments are, or none where they are in no form.
 pub fn parse(arguments: &[String]) -> Option<Command<'_>>
     ensures { MatchOption result (HaveNoForm (texts arguments.now))
         (λ command. IsCommand (texts arguments.now) (command_of command)) }
 {
-    let image = called_image(arguments)?;
-    Some(Command::Call { image })
+    if is_only(arguments, "asm") {
+        return Some(Command::Asm);
+    }
+    if is_only(arguments, "dis") {
+        return Some(Command::Dis);
+    }
+    match called_image(arguments) {
+        Some(image) => Some(Command::Call { image }),
+        None => None,
+    }
 }

@@ -1,17 +1,22 @@
 //! The program's commands.
 
 ghost use Rattle.std.specs.Prelude.{◌≡◌, ◌≢◌, ℕ, ◌≤◌, ◌⊎◌, ◌↔◌, List, Err};
+ghost use Rattle.asm_commands.specs.Asm.{Assembles};
+ghost use Rattle.asm_commands.specs.Conversion.{ConversionDoes, ConversionEnds};
+ghost use Rattle.asm_commands.specs.Dis.{Lists};
+ghost use Rattle.call_command.specs.Call.{CallDoes, CallEnds};
+ghost use Rattle.command_parts.specs.Ending.{Keeps, Reports};
+ghost use Rattle.command_parts.specs.Outside.{outside, seen};
+ghost use Rattle.command_parts.specs.Refusals.{line_of};
 ghost use Rattle.seuss_top.specs.Arguments.{texts};
-ghost use Rattle.seuss_top.specs.Call.{CallDoes, CallEnds};
-ghost use Rattle.seuss_top.specs.Command.{Call, IsCommand, HaveNoForm};
-ghost use Rattle.seuss_top.specs.Ending.{Keeps, Reports};
-ghost use Rattle.seuss_top.specs.Outside.{outside, seen};
-ghost use Rattle.seuss_top.specs.Refusals.{line_of};
+ghost use Rattle.seuss_top.specs.Command.{Asm, Call, Dis, IsCommand, HaveNoForm};
 
 use crate::arguments::parse;
-use crate::call::call;
-use crate::refusal::Refusal;
-use edge_io::{Files, Sink, Source, write_all};
+use asm_commands::{Assembly, Disassembly, convert};
+use call_command::call;
+use command_parts::{Plain, Refusal, report};
+use edge_files::Files;
+use edge_streams::{Sink, Source};
 use std::alloc::Global;
 
 /// A command with its arguments.
@@ -19,26 +24,10 @@ use std::alloc::Global;
 pub enum Command<'a> {
     /// `call IMAGE`: the image of the file IMAGE runs once.
     Call { image: &'a str },
-}
-
-/// How a command ended: 0 is done, and 1 to 7 are refusals.
-///
-/// | Status | It comes |
-/// |---|---|
-/// | 1 | exactly where the arguments are in no form |
-/// | 2 | only where the file is no image, and then but for 6 and 7 |
-/// | 3 | only where the source has more than 32,768 bytes, and then but for 2, 4, 6 and 7 |
-/// | 4 | exactly where a read of the source failed |
-/// | 5 | exactly where a write of the sink failed; a part of the output was written |
-/// | 6 | exactly where a file couldn't be read |
-/// | 7 | where memory ran out, which has no cause that a contract could name |
-pub type Status = u8;
-
-/// What became of a command.
-#[derive(Clone, Copy, Debug, PartialEq, Eq)]
-pub enum Plain {
-    /// It ended with this status.
-    Done(Status),
+    /// `asm`: assembler text becomes an ELF file.
+    Asm,
+    /// `dis`: an ELF file becomes a listing of its words.
+    Dis,
 }
 
 /// Does the command that the arguments are.
@@ -58,6 +47,16 @@ fn perform<F: Files, S: Source, K: Sink>(
         (S.faults source.new))
         (seen (K.contents sink.old) (K.contents sink.new) (K.faults sink.old)
         (K.faults sink.new))) image result }
+    ensures asm { IsCommand (texts arguments.now) Asm → ConversionDoes Assembles
+        (seen (S.remaining source.old) (S.remaining source.new) (S.faults source.old)
+        (S.faults source.new))
+        (seen (K.contents sink.old) (K.contents sink.new) (K.faults sink.old)
+        (K.faults sink.new)) result }
+    ensures dis { IsCommand (texts arguments.now) Dis → ConversionDoes Lists
+        (seen (S.remaining source.old) (S.remaining source.new) (S.faults source.old)
+        (S.faults source.new))
+        (seen (K.contents sink.old) (K.contents sink.new) (K.faults sink.old)
+        (K.faults sink.new)) result }
     ensures keeps { Keeps (outside
         (seen (F.contents files.old) (F.contents files.new) (F.faults files.old)
         (F.faults files.new))
@@ -68,23 +67,21 @@ fn perform<F: Files, S: Source, K: Sink>(
 {
     match parse(arguments) {
         Some(Command::Call { image }) => call(alloc, image, files, source, sink),
+        Some(Command::Asm) => convert::<Assembly, S, K>(alloc, source, sink),
+        Some(Command::Dis) => convert::<Disassembly, S, K>(alloc, source, sink),
         None => Err(Refusal::Arguments),
     }
 }
 
-/// Says why a command is refused. A fault there changes nothing.
-pub fn report<E: Sink>(errs: &mut E, refusal: &Refusal)
-    ensures reported { Reports (line_of refusal.now)
-        (seen (E.contents errs.old) (E.contents errs.new) (E.faults errs.old) (E.faults errs.new)) }
-    ensures monotone { E.faults errs.old ≤ E.faults errs.new }
-{
-    let _ = write_all(errs, refusal.line().as_bytes());
-}
-
-/// Does the command that the arguments are, and answers how it ended. There is one,
-/// `call IMAGE`: the image of the file IMAGE runs with the source's bytes as one packet, and
-/// the line `END STEPS PACKETS CONSOLE` of its run is written to the sink. Each refusal writes
-/// its line to `errs`. What files, source and sinks hold is promised where they tell it.
+/// Does the command that the arguments are, and answers how it ended.
+///
+/// - `call IMAGE`: the image of the file IMAGE runs with the source's bytes as one packet, and the
+///   line `END STEPS PACKETS CONSOLE` of its run is written.
+/// - `asm`: the source is assembler text, whose ELF file is written.
+/// - `dis`: the source is an ELF file; a line for each word of its executable segments is written.
+///
+/// Each refusal writes its line to `errs`. What files, source and sinks hold is promised where
+/// they tell it.
 pub fn run_plain<F: Files, S: Source, K: Sink, E: Sink>(
     alloc: Global,
     arguments: &[String],
@@ -108,12 +105,26 @@ pub fn run_plain<F: Files, S: Source, K: Sink, E: Sink>(
         (seen (K.contents sink.old) (K.contents sink.new) (K.faults sink.old) (K.faults sink.new)))
         (seen (E.contents errs.old) (E.contents errs.new) (E.faults errs.old)
         (E.faults errs.new)) image result }
+    ensures asm { IsCommand (texts arguments.now) Asm → ConversionEnds Assembles
+        (seen (S.remaining source.old) (S.remaining source.new) (S.faults source.old)
+        (S.faults source.new))
+        (seen (K.contents sink.old) (K.contents sink.new) (K.faults sink.old)
+        (K.faults sink.new))
+        (seen (E.contents errs.old) (E.contents errs.new) (E.faults errs.old)
+        (E.faults errs.new)) result }
+    ensures dis { IsCommand (texts arguments.now) Dis → ConversionEnds Lists
+        (seen (S.remaining source.old) (S.remaining source.new) (S.faults source.old)
+        (S.faults source.new))
+        (seen (K.contents sink.old) (K.contents sink.new) (K.faults sink.old)
+        (K.faults sink.new))
+        (seen (E.contents errs.old) (E.contents errs.new) (E.faults errs.old)
+        (E.faults errs.new)) result }
 
-    // Files hold what they held. At 1, 2 and 6 nothing of the source was read; but at 0 and 5
+    // Files hold what they held. At 1 and 6 nothing of the source was read; but at 0 and 5
     // nothing was written.
     ensures files { F.contents files.new ≡ F.contents files.old }
-    ensures source { (result ≡ Plain.Done 1) ⊎ (result ≡ Plain.Done 2) ⊎ (result ≡ Plain.Done 6) →
-        S.remaining source.new ≡ S.remaining source.old }
+    ensures source { (result ≡ Plain.Done 1) ⊎ (result ≡ Plain.Done 6)
+        → S.remaining source.new ≡ S.remaining source.old }
     ensures sink { result ≢ Plain.Done 0 → result ≢ Plain.Done 5
         → K.contents sink.new ≡ K.contents sink.old }
 

@@ -2,11 +2,7 @@
 #![tactic(auto)]
 
 mod arguments;
-mod call;
 mod command;
-mod execution;
-mod refusal;
-mod reply;
 
-pub use command::{Command, Plain, Status, report, run_plain};
-pub use refusal::Refusal;
+pub use command::{Command, run_plain};
+pub use command_parts::{Plain, Refusal, Status, report};

@@ -1,4 +1,4 @@
-use Rattle.std.proofs.Common.{◌≡◌, ℕ, ◌*◌, sym, ap, ◌∙◌}
+use Rattle.std.proofs.Common.{◌*◌, sym, ap, ◌∙◌}
 use Rattle.frame_model.specs.declared.view.View.{View}
 use Rattle.frame_words.proofs.Calls.{puts}
 use Rattle.frame_words.proofs.write.put_word.Goals as goal

@@ -3,7 +3,7 @@ use Rattle.std.proofs.lemmas.Grind.{common_steps}
 use Rattle.std.specs.Vec.Iter.{into_iter_items}
 use Rattle.plan_text.specs.Placing.{placed_functions}
 use Rattle.plan_text.proofs.Placed.{functions_more, functions_unknown, functions_done}
-use Rattle.plan_text.proofs.Prepending.{prepended}
+use Rattle.plan_tables.proofs.Prepending.{prepended}
 use Rattle.plan_text.proofs.placing.placed_functions.Goals as goal
 
 pub returns-in-None-placed_function-clause-fault :

@@ -1,7 +1,7 @@
 use Rattle.std.proofs.Common.{◌≡◌}
 use Rattle.std.specs.Vec.Iter.{into_iter_items}
 use Rattle.plan_text.specs.Placing.{placed_functions}
-use Rattle.plan_text.proofs.Prepending.{prepended}
+use Rattle.plan_tables.proofs.Prepending.{prepended}
 use Rattle.plan_text.proofs.placing.placed_functions.Given as goal
 
 abbrev pub invariant-functions : goal.invariant-functions

@@ -1,8 +1,12 @@
 use Rattle.std.proofs.Common.{refl}
-use Rattle.seuss_top.specs.declared.refusal.Refusal.TheVariants.{Read, Write, File}
-use Rattle.seuss_top.proofs.Ends.{refused_ends}
+use Rattle.asm_commands.proofs.Ends as conversion
+use Rattle.asm_commands.proofs.Once.{assembles_once, lists_once}
+use Rattle.asm_commands.specs.Asm.{Assembles}
+use Rattle.asm_commands.specs.Dis.{Lists}
+use Rattle.call_command.proofs.Ends.{done_ends, refused_ends}
+use Rattle.command_parts.specs.declared.refusal.Refusal.TheVariants.{Read, Write, File}
 use Rattle.seuss_top.proofs.Statuses.{refused_no_form, refused_usage, refused_source, refused_sink, refused_count}
-use Rattle.seuss_top.proofs.Statuses.{done_no_form, done_differs, done_source, done_sink, done_ends}
+use Rattle.seuss_top.proofs.Statuses.{done_no_form, done_differs, done_source, done_sink}
 use Rattle.seuss_top.proofs.command.run_plain.Goals as goal
 
 pub returns-in-Ok-clause-no_form : goal.returns-in-Ok-clause-no_form
@@ -13,6 +17,12 @@ returns-in-Ok-clause-usage g c = done_differs _
 
 pub returns-in-Ok-clause-call : goal.returns-in-Ok-clause-call
 returns-in-Ok-clause-call g c = λ image is. done_ends _ _ image (c.in-Ok.ensures.call image is) refl
+
+pub returns-in-Ok-clause-asm : goal.returns-in-Ok-clause-asm
+returns-in-Ok-clause-asm g c = λ is. conversion.done_ends Assembles assembles_once _ _ _ (c.in-Ok.ensures.asm is) refl
+
+pub returns-in-Ok-clause-dis : goal.returns-in-Ok-clause-dis
+returns-in-Ok-clause-dis g c = λ is. conversion.done_ends Lists lists_once _ _ _ (c.in-Ok.ensures.dis is) refl
 
 pub returns-in-Ok-clause-source : goal.returns-in-Ok-clause-source
 returns-in-Ok-clause-source g c = done_source _
@@ -31,6 +41,14 @@ returns-in-Err-clause-usage g c =
 pub returns-in-Err-clause-call : goal.returns-in-Err-clause-call
 returns-in-Err-clause-call g c = λ image is.
     rw c.status.ensures (refused_ends _ image _ c.in-Err.refusal (c.in-Err.ensures.call image is) c.report.ensures.reported)
+
+pub returns-in-Err-clause-asm : goal.returns-in-Err-clause-asm
+returns-in-Err-clause-asm g c = λ is.
+    rw c.status.ensures (conversion.refused_ends Assembles assembles_once _ _ _ c.in-Err.refusal (c.in-Err.ensures.asm is) c.report.ensures.reported)
+
+pub returns-in-Err-clause-dis : goal.returns-in-Err-clause-dis
+returns-in-Err-clause-dis g c = λ is.
+    rw c.status.ensures (conversion.refused_ends Lists lists_once _ _ _ c.in-Err.refusal (c.in-Err.ensures.dis is) c.report.ensures.reported)
 
 pub returns-in-Err-clause-source : goal.returns-in-Err-clause-source
 returns-in-Err-clause-source g c =

@@ -1,7 +1,7 @@
 use Rattle.std.proofs.lemmas.List.{length-replicate}
-use Rattle.std.proofs.Common.{List, length, ◌≡◌, ℕ, ◌*◌, sym, ap, subst, ◌∙◌}
+use Rattle.std.proofs.Common.{List, length, ℕ, ◌*◌, sym, ap, subst, ◌∙◌}
 use Rattle.frame_model.specs.declared.view.View.{View}
-use Rattle.frame_model.specs.Views.{first_view, IsSound}
+use Rattle.frame_model.specs.Views.{IsSound}
 use Rattle.frame_words.proofs.Calls.{opens, first_is_sound}
 use Rattle.frame_words.proofs.table.FrameTable.open.Goals as goal
 

@@ -1,0 +1,11 @@
+//! Tests of the assembler: on words, on lines, on texts. There is no code here.
+#![tactic(auto)]
+
+#[cfg(test)]
+mod line_tests;
+#[cfg(test)]
+mod rows;
+#[cfg(test)]
+mod tests;
+#[cfg(test)]
+mod word_tests;

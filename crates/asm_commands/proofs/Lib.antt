@@ -1,0 +1,6 @@
+pub mod Conversions
+pub mod Digits
+pub mod Ends
+pub mod Once
+pub mod Steps
+pub mod Texts

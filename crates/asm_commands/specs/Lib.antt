@@ -1,0 +1,4 @@
+pub mod Asm
+pub mod Conversion
+pub mod Dis
+pub mod Listing

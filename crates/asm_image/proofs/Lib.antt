@@ -1,0 +1,3 @@
+pub mod Invalid
+pub mod Lines
+pub mod Rooms

@@ -1,0 +1,9 @@
+pub mod Addresses
+pub mod Data
+pub mod Law
+pub mod Lines
+pub mod Mnemonics
+pub mod Printed
+pub mod Shapes
+pub mod Spelled
+pub mod Words

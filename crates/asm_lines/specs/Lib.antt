@@ -1,0 +1,4 @@
+pub mod KindName
+pub mod Ranges
+pub mod Said
+pub mod Statement

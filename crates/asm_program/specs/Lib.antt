@@ -1,0 +1,4 @@
+pub mod Held
+pub mod Program
+pub mod Reading
+pub mod Registers

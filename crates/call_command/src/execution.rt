@@ -1,0 +1,124 @@
+//! The execution of an image: its machine is made, given packets, and run to its first stop.
+
+ghost use Rattle.std.specs.Prelude.{◌≡◌, ◌≢◌, ◌%◌, ◌<◌, IfOk};
+ghost use Rattle.image_model.specs.StartOf as model;
+ghost use Rattle.machine_model.specs.Loaded.{loaded};
+ghost use Rattle.machine_model.specs.Run.{give, Replies};
+ghost use Rattle.machine_run.specs.Continued as continued;
+ghost use Rattle.space_api.specs.Flat.{Flat, Traffic, machine_of, flat_of};
+ghost use Rattle.call_command.specs.Call.{call_stack, call_limits};
+
+use hyper_calls::Ports;
+use image_model::{Image, Start, start_is_sound};
+use image_start::start_of;
+use machine_model::{Hart, Memory, Packet, REGISTERS, Stop};
+use machine_run::{Limits, Progress, RunEnd, Steps, parts_are_the_run, run};
+use plain_space::PlainSpace;
+use std::alloc::Global;
+use std::sync::ledger::{Blank, Ledger};
+
+/// The size of the stack in bytes, and where it ends.
+const STACK: u64 = 65_536;
+
+const STACK_END: u64 = 1 << 38;
+
+/// The stack pointer (RISC-V ELF psABI, "Integer Register Convention").
+const SP: u8 = 2;
+
+/// What the clock shows, in nanoseconds.
+const CLOCK: u64 = 0;
+
+/// An execution ends at the program's own stop, or after so many instructions.
+const LIMITS: Limits = Limits {
+    trigger: None,
+    budget: 100_000_000,
+    pause: None,
+};
+
+/// Why an execution stopped, after how many instructions, and what it wrote.
+#[derive(Drop)]
+pub struct Execution {
+    pub stop: Stop,
+    pub number: u64,
+    pub ports: Ports,
+}
+
+/// The hart before a program's first instruction.
+fn first_hart(start: &Start) -> Hart
+    requires { start.now.entry % 4 ≡ 0 }
+    ensures { (traffic : Traffic) → machine_of result (flat_of start.now) traffic
+        ≡ record (loaded start.now) {
+          queue = traffic.queue;
+          sent = traffic.sent;
+          console = traffic.console;
+        } }
+{
+    let mut hart = Hart {
+        x: [0; REGISTERS],
+        pc: start.entry(),
+        resting: false,
+    };
+    hart.set_register(SP, STACK_END);
+    hart
+}
+
+/// The stop that an end is, or none where memory ran out. A run over copied pages wants no
+/// frames, and without a pause it doesn't pause.
+fn stop_of(end: RunEnd) -> Option<Stop>
+    requires unpaused { end ≢ RunEnd.Paused }
+    requires served { end ≢ RunEnd.NeedFrames }
+    ensures { result ≡ continued.stop_of end }
+{
+    match end {
+        RunEnd::Rest => Some(Stop::Rest),
+        RunEnd::Trigger => Some(Stop::Trigger),
+        RunEnd::Halt(code) => Some(Stop::Halt { code }),
+        RunEnd::Fault { cause, pc, tval } => Some(Stop::Exception { cause, pc, tval }),
+        RunEnd::Budget => Some(Stop::Budget),
+        RunEnd::Memory => None,
+        RunEnd::Paused | RunEnd::NeedFrames => unreachable!(),
+    }
+}
+
+/// Executes an image that is given these packets.
+pub fn execute<L: Ledger>(
+    alloc: Global,
+    image: &Image,
+    packets: &[Packet],
+    blank: Blank,
+) -> Result<Execution, Memory>
+    requires name { blank.name ≡ L.name }
+    requires parts { blank.parts ≡ L.parts }
+    requires some { 0 < blank.parts }
+    requires aligned { image.now.entry % 4 ≡ 0 }
+    ensures { IfOk result (λ e. Replies 0 call_limits
+        (give (loaded (model.start_of image.now call_stack)) packets.now)
+        e.stop e.number e.ports.traffic.sent e.ports.traffic.console) }
+{
+    // These calls do nothing: their contracts are the laws that the clause rests on.
+    start_is_sound();
+    parts_are_the_run();
+    let start = start_of(alloc, image, STACK)?;
+    let mut hart = first_hart(&start);
+    let mut space = PlainSpace::of(alloc, &start)?;
+    let mut ports = Ports::open(alloc, CLOCK)?;
+    ports.begin(alloc, packets, CLOCK)?;
+    let mut progress = Progress { done: 0 };
+    let mut steps = Steps::<L>::new(blank);
+    let end = run(
+        &mut hart,
+        &mut space,
+        &mut ports,
+        &LIMITS,
+        &mut progress,
+        &mut steps,
+    );
+    match stop_of(end) {
+        Some(stop) => Ok(Execution {
+            stop,
+            number: progress.done,
+            ports,
+        }),
+        None => Err(Memory),
+    }
+}

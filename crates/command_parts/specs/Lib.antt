@@ -1,0 +1,5 @@
+pub mod Ending
+pub mod ImageLine
+pub mod Outside
+pub mod Refusals
+pub mod Sources

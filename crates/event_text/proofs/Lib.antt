@@ -1,0 +1,4 @@
+pub mod Digits
+pub mod ReadBack
+pub mod Lines
+pub mod Words

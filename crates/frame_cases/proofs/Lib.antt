@@ -1,0 +1,4 @@
+pub mod Giving
+pub mod Placing
+pub mod Visits
+pub mod Worked

@@ -1,0 +1,7 @@
+use Rattle.std.proofs.Common.{◌≡◌}
+use Rattle.frame_words.specs.Holders.{view, IsOf}
+use Rattle.frame_rounds.specs.Rows.{cut_view}
+use Rattle.frame_rounds.proofs.rounds.cuts.Given as goal
+
+abbrev pub invariant-loop : goal.invariant-loop
+invariant-loop l = (view l.h ≡ cut_view) × IsOf l.h l.t

@@ -1,0 +1,7 @@
+use Rattle.std.proofs.Common.{◌≡◌}
+use Rattle.frame_words.specs.Holders.{view, IsOf}
+use Rattle.frame_rounds.specs.Rows.{dressed_view}
+use Rattle.frame_rounds.proofs.rounds.dresses.Given as goal
+
+abbrev pub invariant-loop : goal.invariant-loop
+invariant-loop l = (view l.h ≡ dressed_view) × IsOf l.h l.t

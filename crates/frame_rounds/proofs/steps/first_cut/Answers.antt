@@ -1,0 +1,21 @@
+use Rattle.std.proofs.Common.{◌+◌, ◌≤◌, length, sym, ap, subst, ◌∙◌}
+use Rattle.frame_model.specs.declared.view.View.{View}
+use Rattle.frame_words.specs.Steps.{kept_of, given_of, IsThere, joined}
+use Rattle.frame_rounds.specs.Rows.{third}
+use Rattle.frame_rounds.proofs.Turns as turns
+use Rattle.frame_rounds.proofs.steps.first_cut.Goals as goal
+
+pub split-other-requires-clause-there : goal.split-other-requires-clause-there
+split-other-requires-clause-there c = subst (λ (v : View). IsThere third v) (sym c.requires.view) turns.first_third
+
+pub join-requires-clause-few : goal.join-requires-clause-few
+join-requires-clause-few c =
+    let k = c.split-other.ensures.kept ∙ ap (λ (v : View). kept_of third v) c.requires.view in
+    let g = c.split-other.ensures.given ∙ ap (λ (v : View). given_of third v) c.requires.view in
+    subst (λ (p : View × View). length p.0.references + length p.1.references ≤ 16) (λ i. (sym k i, sym g i)) turns.first_few
+
+pub returns-clause-joined : goal.returns-clause-joined
+returns-clause-joined c =
+    let k = c.split-other.ensures.kept ∙ ap (λ (v : View). kept_of third v) c.requires.view in
+    let g = c.split-other.ensures.given ∙ ap (λ (v : View). given_of third v) c.requires.view in
+    c.join.ensures.view ∙ (λ i. joined (k i) (g i))

@@ -1,0 +1,41 @@
+//! How a view is cut in two, and how two are made one.
+
+use crate::part::Part;
+use atomic_table::{Join, Split};
+use frame_model::View;
+use std::marker::{Brand, PhantomData};
+
+/// The part that a split names. The proof of a split picks it, whatever it is.
+pub trait Named {
+    ghost use Rattle.frame_words.specs.declared.part.Part.{Part};
+
+    ghost part: { Part };
+}
+
+impl Named for Brand {
+    ghost use Rattle.frame_words.specs.declared.part.Part.TheVariants.{Pile};
+
+    ghost part = { Pile (record { 0 = 0 }) 0 0 };
+}
+
+/// The cut along a part.
+pub struct Cut<P: Named>(PhantomData<P>);
+
+impl<P: Named> Split<View> for Cut<P> {
+    ghost use Rattle.frame_words.specs.Steps.{kept_of, given_of};
+
+    ghost left = { kept_of P.part };
+
+    ghost right = { given_of P.part };
+}
+
+/// Two views as one.
+pub struct Unite;
+
+impl Join<View> for Unite {
+    ghost use Rattle.frame_words.specs.Steps.{joined, spent};
+
+    ghost both = { joined };
+
+    ghost spent = { spent };
+}

@@ -1,0 +1,5 @@
+//! Journals and lines of events whose answers were worked out by hand, tried on `run_journal`.
+#![tactic(auto)]
+
+#[cfg(test)]
+mod tests;

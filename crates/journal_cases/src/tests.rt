@@ -1,0 +1,4 @@
+//! Journals, and lines of events.
+
+mod journals;
+mod lines;

@@ -1,8 +1,0 @@
-use Rattle.plan_text.specs.Keys.{value_at}
-use Rattle.toml.proofs.Views.{table_get}
-use Rattle.plan_text.proofs.members.value.Goals as goal
-
-pub returns : goal.returns
-unfolding value_at
-returns c = rw (← c.text.ensures)
-    (table_get c.get.result c.text.result.now c.args.table.now.entries c.get.ensures.value)
