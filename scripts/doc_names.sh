@@ -12,7 +12,7 @@
 #           stands somewhere in what the crates, scripts, guest, examples or bench hold. Behind
 #           the name of a crate, it stands in that crate. A crate is a line of crates.txt
 # All else is left out: commands with words, lines of output, formulas, numbers, options,
-# attributes, and words in capitals alone, which are placeholders or the standards' own.
+# attributes, words in capitals alone, which are placeholders or the standards' own, and NAME_..
 set -u
 export LC_ALL=C
 
@@ -88,7 +88,7 @@ kinds() {
             next
         }
         text ~ ("^[A-Za-z0-9_-]+[.](" ending ")$") { put("file", text); next }
-        text ~ /^[A-Z0-9_.]+$/ { next }
+        text ~ /^[A-Z0-9_.]+$/ || text ~ /^NAME_|_NAME$/ { next }
         text ~ /^[A-Za-z_][A-Za-z0-9_-]*((::|[.])[A-Za-z_][A-Za-z0-9_-]*)*(!|\(.*\))?$/ {
             sub(/(!|\(.*)$/, "", text)
             gsub(/::|[.]/, " ", text)
