@@ -47,6 +47,8 @@ pub fn starts<F: Files>(
         spec.starts_of file_of stack names.now spec.no_totals ≡ Err fault)) }
     ensures kind { IfErr result (λ fault. fault ≢ PlanFault.Memory → IsOfImages fault) }
     ensures failed { result ≡ Err PlanFault.File → Rises (F.faults files.old) (F.faults files.new) }
+    ensures place { result ≡ Err PlanFault.File → IfSome (F.contents files.old) (λ file_of.
+        spec.StopsAtOne file_of stack names.now) }
     ensures kept { F.contents files.new ≡ F.contents files.old }
     ensures counted { result ≢ Err PlanFault.File → F.faults files.new ≡ F.faults files.old }
     ensures monotone { F.faults files.old ≤ F.faults files.new }
