@@ -47,9 +47,7 @@ impl fmt::Display for PlanFault {
         match self {
             PlanFault::Toml => f.write_str("Toml"),
             PlanFault::Missing(key) => write!(f, "Missing {key}"),
-            PlanFault::Unknown(text) => {
-                write!(f, "Unknown {}", Shown(text.as_str().as_bytes()))
-            }
+            PlanFault::Unknown(text) => { write!(f, "Unknown {}", Shown(text.as_str().as_bytes())) }
             PlanFault::Shape(key) => write!(f, "Shape {key}"),
             PlanFault::Range(key) => write!(f, "Range {key}"),
             PlanFault::Name => f.write_str("Name"),

@@ -153,7 +153,7 @@ unfolding starts_of
 started_before None stack names i done totals lt started = tt
 started_before (Some file_of) stack names i done totals lt started =
     let said = ap (λ all. starts_of file_of stack all no_totals) (sym (append-nil (take i names)))
-        ∙ sym (started.made []) in
+    ∙ sym (started.made []) in
     (i, (lt, rw said refl))
 
 pub started_whole : (files : Contents) (stack : ℕ) (names : List (List ℕ)) (i : ℕ)

@@ -13,13 +13,11 @@ ghost use Rattle.plan_text.specs.PlanText.{IsOfImages};
 
 use edge_files::{FileFault, Files};
 use elf64::{ElfFault, Image, ImageFault, Segment, entry_is_sound, read_image};
+use image_model::FILE_LIMIT;
 use image_start::start_of;
 use plan_model::{Start, Text};
 use plan_tables::PlanFault;
 use std::alloc::Global;
-
-/// The most bytes of a file.
-const FILE_LIMIT: u64 = 16_777_216;
 
 /// The most bytes of all files of a plan, and the most that they load.
 const TOTAL_LIMIT: u64 = 67_108_864;

@@ -6,4 +6,4 @@ use Rattle.plan_model.proofs.sound.packets_can_be_given.Given as goal
 
 abbrev pub invariant-layers : goal.invariant-layers
 invariant-layers l =
-    AllWithin (λ (layer : PlanLayer). All IsPacket layer.packets) l.layers.now 0 l.layer-index
+    AllWithin (λ (layer : PlanLayer). All IsPacket layer.packets) l.layers 0 l.layer-index
