@@ -5,12 +5,10 @@ ghost use Rattle.asm_program.specs.Held.{part_of};
 ghost use Rattle.asm_image.specs.Sizes as model;
 
 use asm_program::{Part, byte_count};
+use image_model::FILE_LIMIT;
 
 /// An image has at most so many segments.
 const MOST_SEGMENTS: usize = 16;
-
-/// The ELF file of an image has at most so many bytes.
-const LARGEST_FILE: u64 = 16_777_216;
 
 /// How many bytes a file header takes, and each program header.
 const FILE_HEADER_SIZE: u64 = 64;
@@ -25,7 +23,7 @@ pub fn fits_file(parts: &[Part]) -> bool
         return false;
     }
     let headers = FILE_HEADER_SIZE + PROGRAM_HEADER_SIZE * parts.len() as u64;
-    left_behind_all(parts, LARGEST_FILE - headers).is_some()
+    left_behind_all(parts, FILE_LIMIT - headers).is_some()
 }
 
 /// What is left of the room behind the bytes of the segments, or none where they don't fit.

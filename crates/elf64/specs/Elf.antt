@@ -1,8 +1,9 @@
 -- What a file is: an image, or the first fault of a table.
-use Rattle.std.specs.Prelude.{ℕ, ◌+◌, ◌*◌, ◌%◌, ◌^◌, ◌==◌, nat_lt}
+use Rattle.std.specs.Prelude.{ℕ, ◌+◌, ◌*◌, ◌%◌, ◌==◌, nat_lt}
 use Rattle.std.specs.Prelude.{Bool, not, ◌&&◌, ◌||◌, if◌then◌else◌, List, [], ◌∷◌, ◌++◌, length}
 use Rattle.std.specs.Prelude.{Option, Some, None, Result, Ok, Err}
 use Rattle.std.specs.List.{list_any, starts_with}
+use Rattle.image_model.specs.Files.{file_limit}
 use Rattle.image_model.specs.Pages.{page_of}
 use Rattle.image_model.specs.StartOf.{segments_permission}
 use Rattle.image_model.specs.declared.image.Image.{Image}
@@ -21,10 +22,6 @@ image_of bytes = record { entry = e_entry bytes; segments = segments_of bytes (l
 
 -- ---- tests, each of one row
 
--- a file has and loads at most so many bytes
-abbrev pub largest_file : ℕ
-largest_file = 2 ^ 24
-
 abbrev pub most_program_headers : ℕ
 most_program_headers = 64
 
@@ -36,7 +33,7 @@ is_short bytes = nat_lt (length bytes) file_header_size
 
 abbrev pub is_too_big : List ℕ → Bool
 is_too_big bytes =
-    nat_lt largest_file (length bytes) || nat_lt most_program_headers (e_phnum bytes)
+    nat_lt file_limit (length bytes) || nat_lt most_program_headers (e_phnum bytes)
 
 abbrev pub has_other_magic : List ℕ → Bool
 has_other_magic bytes = not (starts_with (λ a b. a == b) bytes elfmag)
@@ -72,7 +69,7 @@ abbrev pub has_wrong_ranges : List ℕ → Bool
 has_wrong_ranges bytes = list_any (has_wrong_range (length bytes)) (loads bytes)
 
 abbrev pub has_too_many_file_bytes : List ℕ → Bool
-has_too_many_file_bytes bytes = nat_lt largest_file (file_sizes (loads bytes))
+has_too_many_file_bytes bytes = nat_lt file_limit (file_sizes (loads bytes))
 
 abbrev pub has_wrong_addresses : List ℕ → Bool
 has_wrong_addresses bytes = list_any has_wrong_address (loads bytes)

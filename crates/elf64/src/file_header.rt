@@ -2,18 +2,17 @@
 
 ghost use Rattle.std.specs.Prelude.{◌≡◌, ◌≤◌, length, OnOk};
 ghost use Rattle.std.specs.Result.{result_err};
+ghost use Rattle.image_model.specs.Files.{file_limit};
 ghost use Rattle.elf64.specs.Elf as elf;
 ghost use Rattle.elf64.specs.Elf.{first_fault, file_checks};
 ghost use Rattle.elf64.specs.Fields as fields;
 
 use crate::fault::ElfFault;
 use crate::field::{u16_at, u64_at};
+use image_model::FILE_LIMIT;
 
 /// How many bytes the file header takes.
 pub const FILE_HEADER_SIZE: usize = 64;
-
-/// How many bytes a file may have, and load.
-pub const LARGEST_FILE: usize = 0x100_0000;
 
 /// How many program headers a file may have.
 const MOST_PROGRAM_HEADERS: u16 = 64;
@@ -52,7 +51,7 @@ const EM_RISCV: u16 = 243;
 pub fn check_file_header(bytes: &[u8]) -> Result<(), ElfFault>
     ensures fault { result_err result ≡ first_fault (file_checks bytes.now) }
     ensures long { OnOk result (fields.file_header_size ≤ length bytes.now) }
-    ensures small { OnOk result (length bytes.now ≤ elf.largest_file) }
+    ensures small { OnOk result (length bytes.now ≤ file_limit) }
 {
     if is_short(bytes) {
         return Err(ElfFault::Short);
@@ -90,7 +89,7 @@ fn is_too_big(bytes: &[u8]) -> bool
     requires { fields.file_header_size ≤ length bytes.now }
     ensures { result ≡ elf.is_too_big bytes.now }
 {
-    bytes.len() > LARGEST_FILE || e_phnum(bytes) > MOST_PROGRAM_HEADERS
+    bytes.len() as u64 > FILE_LIMIT || e_phnum(bytes) > MOST_PROGRAM_HEADERS
 }
 
 /// Whether the file begins otherwise than each ELF file does.

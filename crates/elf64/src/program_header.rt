@@ -3,6 +3,7 @@
 ghost use Rattle.std.specs.Prelude.{◌≡◌, ◌+◌, ◌^◌, ◌<◌, ◌≤◌, nat_lt, length};
 
 use crate::field::{u32_at, u64_at};
+use image_model::PAGE_SIZE;
 
 /// How many bytes a program header takes in the file.
 pub const PROGRAM_HEADER_SIZE: usize = 56;
@@ -18,9 +19,6 @@ const LOWEST_ADDRESS: u64 = 0x1000;
 
 /// Programs lie below this address.
 const HIGHEST_ADDRESS: u64 = 0x3f_c000_0000;
-
-/// Memory comes in pages of so many bytes.
-const PAGE_SIZE: u64 = 0x1000;
 
 /// What a program header says of its segment. A field may have any value that its type has.
 #[derive(Clone, Copy, Debug, PartialEq, Eq, Default)]

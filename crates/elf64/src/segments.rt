@@ -4,6 +4,7 @@
 ghost use Rattle.std.specs.Prelude.{◌≡◌, ◌^◌, ◌<◌, ◌≤◌, false, length, take, drop, IfOk, OnOk};
 ghost use Rattle.std.specs.List.{list_any};
 ghost use Rattle.std.specs.Result.{result_err};
+ghost use Rattle.image_model.specs.Files.{file_limit};
 ghost use Rattle.image_model.specs.Pages.{page_of};
 ghost use Rattle.elf64.specs.Elf as elf;
 ghost use Rattle.elf64.specs.Elf.{first_fault, segment_checks};
@@ -13,9 +14,9 @@ ghost use Rattle.elf64.specs.Segments.{file_sizes, has_wrong_range, is_executabl
 ghost use Rattle.elf64.specs.Segments.{segment_of, segments_of};
 
 use crate::fault::ElfFault;
-use crate::file_header::{LARGEST_FILE, e_entry};
+use crate::file_header::e_entry;
 use crate::program_header::ProgramHeader;
-use image_model::{Bytes, Segment};
+use image_model::{Bytes, FILE_LIMIT, Segment};
 use std::alloc::{AllocError, Global};
 
 /// The flags of execute, write and read are below this number.
@@ -35,7 +36,7 @@ const INSTRUCTION_SIZE: u64 = 4;
 #[tactic(auto, unfolding(crate::specs::Elf::segment_checks))]
 pub fn check_loads(bytes: &[u8], loads: &[ProgramHeader]) -> Result<(), ElfFault>
     requires long { file_header_size ≤ length bytes.now }
-    requires small { length bytes.now ≤ elf.largest_file }
+    requires small { length bytes.now ≤ file_limit }
     requires loads { loads.now ≡ segments.loads bytes.now }
     requires few { length loads.now ≤ elf.most_loads }
     ensures fault { result_err result ≡ first_fault (segment_checks bytes.now) }
@@ -44,7 +45,7 @@ pub fn check_loads(bytes: &[u8], loads: &[ProgramHeader]) -> Result<(), ElfFault
     if has_wrong_ranges(bytes.len(), loads) {
         return Err(ElfFault::SegmentRange);
     }
-    if file_size(loads) > LARGEST_FILE as u64 {
+    if file_size(loads) > FILE_LIMIT {
         return Err(ElfFault::TooBig);
     }
     if has_wrong_addresses(loads) {

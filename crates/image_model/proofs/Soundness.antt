@@ -1,10 +1,12 @@
 -- The regions and pages of an image's start are such as a `Start` may have.
 use Rattle.std.proofs.Common.{◌≡◌, ℕ, zero, suc, ◌+◌, ◌^◌, ◌<◌, ◌≤◌, true, ◌&&◌, ◌||◌}
-use Rattle.std.proofs.Common.{List, [], ◌∷◌, inl, inr, refl, arith}
-use Rattle.std.proofs.lemmas.Bool.{cond_both, or_cases, or_left, or_right}
-use Rattle.image_model.specs.Layout.{AreRegions, ArePages}
-use Rattle.image_model.specs.Pages.{page_start, page_limit}
-use Rattle.image_model.specs.Permission.{Permission, is_some_permission, joined_permission}
+use Rattle.std.proofs.Common.{List, [], ◌∷◌, nat_lt, inl, inr, refl, ap, ◌∙◌, arith}
+use Rattle.std.proofs.lemmas.Bool.{cond_both, cond-true, and_parts, lt-ltb}
+use Rattle.std.proofs.lemmas.Bool.{or_cases, or_left, or_right}
+use Rattle.image_model.specs.Layout.{AreRegions, ArePages, AreInRegions}
+use Rattle.image_model.specs.Pages.{page_size, page_start, page_limit}
+use Rattle.image_model.specs.Permission.{Permission, no_permission, is_some_permission}
+use Rattle.image_model.specs.Permission.{joined_permission, permission_in}
 use Rattle.image_model.specs.StartOf.{is_on_page, flags_permission, segments_permission}
 use Rattle.image_model.specs.StartOf.{is_stack_page, stack_permission, page_permission}
 use Rattle.image_model.specs.StartOf.{goes_before, one_page, one_more}
@@ -14,7 +16,7 @@ use Rattle.image_model.specs.declared.image.Segment.{Segment}
 use Rattle.image_model.specs.declared.region.PageBytes.{PageBytes}
 use Rattle.image_model.specs.declared.region.Region.{Region}
 use Rattle.image_model.proofs.Pages.{file_bytes-length}
-use Rattle.image_model.proofs.Regions.{goes_before-parts}
+use Rattle.image_model.proofs.Regions.{goes_before-parts, regions_from_0}
 
 -- ---- what may be written may be read
 
@@ -159,3 +161,29 @@ pages_of-sound segments f page (suc n) le =
       sound,
     ))
     (λ _. lower_pages page (page + 1) others (omega arith) sound)
+
+-- each of them has a permission below the limit
+pages_of-inside : (segments : List Segment) (f : ℕ → Permission) (rs : List Region)
+    → ((page : ℕ) → page < page_limit → permission_in rs page ≡ f page)
+    → (page n : ℕ) → page + n ≤ page_limit → AreInRegions rs (pages_of segments f page n)
+unfolding pages_of
+pages_of-inside segments f rs gives page zero le = tt
+pages_of-inside segments f rs gives page (suc n) le =
+    let others = pages_of segments f (page + 1) n in
+    let inside = pages_of-inside segments f rs gives (page + 1) n (omega arith) in
+    cond_both (is_some_permission (f page) && has_file_byte segments page)
+    (record { page = page; bytes = file_bytes segments (page_start page) page_size } ∷ others)
+    others (AreInRegions rs)
+    (λ both. (
+      ap is_some_permission (gives page (omega arith)) ∙ (and_parts _ _ both).0,
+      inside,
+    ))
+    (λ _. inside)
+
+pub start_pages-inside : (segments : List Segment) (f : ℕ → Permission)
+    → AreInRegions (regions_of f 0 page_limit) (pages_of segments f 0 page_limit)
+start_pages-inside segments f =
+    let given : (page : ℕ) → page < page_limit
+    → permission_in (regions_of f 0 page_limit) page ≡ f page = λ page lt. regions_from_0 f page_limit page
+    ∙ cond-true (nat_lt page page_limit) (f page) no_permission (lt-ltb page page_limit lt) in
+    pages_of-inside segments f (regions_of f 0 page_limit) given 0 page_limit (omega arith)

@@ -1,8 +1,9 @@
 -- What a `Start` is: an entry, regions with permissions, and pages with bytes.
-use Rattle.std.specs.Prelude.{◌≡◌, ℕ, ◌+◌, ◌%◌, ◌^◌, ◌<◌, ◌≤◌, ◌==◌, ◌||◌, IsTrue, if◌then◌else◌}
-use Rattle.std.specs.Prelude.{List, [], ◌∷◌, length, slice_index}
-use Rattle.image_model.specs.Pages.{page_of, page_limit}
-use Rattle.image_model.specs.Permission.{Permission, region_permission}
+use Rattle.std.specs.Prelude.{◌≡◌, ℕ, ◌+◌, ◌%◌, ◌<◌, ◌≤◌, ◌==◌, ◌||◌, IsTrue, if◌then◌else◌}
+use Rattle.std.specs.Prelude.{true, List, [], ◌∷◌, length, slice_index}
+use Rattle.image_model.specs.Pages.{page_size, page_of, page_limit}
+use Rattle.image_model.specs.Permission.{Permission, is_some_permission, region_permission}
+use Rattle.image_model.specs.Permission.{permission_in}
 use Rattle.image_model.specs.declared.region.PageBytes.{PageBytes}
 use Rattle.image_model.specs.declared.region.Region.{Region}
 
@@ -14,7 +15,8 @@ pub record Layout : Type 0 where
 -- the byte at an address: that of its page, or 0 where the page isn't listed
 abbrev pub byte_in : List PageBytes → ℕ → ℕ
 byte_in [] a = 0
-byte_in (p ∷ ps) a = if p.page == page_of a then slice_index p.bytes (a % 2 ^ 12) else byte_in ps a
+byte_in (p ∷ ps) a =
+    if p.page == page_of a then slice_index p.bytes (a % page_size) else byte_in ps a
 
 -- ---- which layouts a `Start` may have
 
@@ -44,14 +46,21 @@ IsJoined (r ∷ rs) = IsApart (r.page + r.count) (region_permission r) rs × IsJ
 pub record IsPage (lowest : ℕ) (p : PageBytes) : Type 0 where
   pub above : lowest ≤ p.page
   pub below : p.page < page_limit
-  pub whole : length p.bytes ≡ 2 ^ 12
+  pub whole : length p.bytes ≡ page_size
 
 -- pages rise, each once
 abbrev pub ArePages : (lowest : ℕ) → List PageBytes → Type 0
 ArePages lowest [] = Unit {0}
 ArePages lowest (p ∷ ps) = IsPage lowest p × ArePages (p.page + 1) ps
 
+-- each page is one of a region's
+abbrev pub AreInRegions : List Region → List PageBytes → Type 0
+AreInRegions rs [] = Unit {0}
+AreInRegions rs (p ∷ ps) =
+    (is_some_permission (permission_in rs p.page) ≡ true) × AreInRegions rs ps
+
 pub record IsLayout (l : Layout) : Type 0 where
   pub aligned : l.entry % 4 ≡ 0
   pub regions : AreRegions 0 l.regions
   pub pages : ArePages 0 l.pages
+  pub inside : AreInRegions l.regions l.pages

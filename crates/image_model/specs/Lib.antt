@@ -1,3 +1,4 @@
+pub mod Files
 pub mod Layout
 pub mod Pages
 pub mod Permission

@@ -5,7 +5,7 @@ use Rattle.std.specs.Prelude.{Bool, true, false, not, ◌&&◌, ◌||◌, if◌t
 use Rattle.std.specs.Prelude.{List, [], ◌∷◌, length, slice_index}
 use Rattle.std.specs.List.{list_any}
 use Rattle.image_model.specs.Layout.{Layout}
-use Rattle.image_model.specs.Pages.{page_start, page_limit}
+use Rattle.image_model.specs.Pages.{page_size, page_start, page_limit}
 use Rattle.image_model.specs.Permission.{Permission, no_permission, is_some_permission}
 use Rattle.image_model.specs.Permission.{joined_permission}
 use Rattle.image_model.specs.declared.image.Image.{Image}
@@ -119,7 +119,7 @@ unfoldable pub pages_of : List Segment → (ℕ → Permission) → (page n : �
 pages_of segments permission page zero = []
 pages_of segments permission page (suc n) =
     if is_some_permission (permission page) && has_file_byte segments page
-    then record { page = page; bytes = file_bytes segments (page_start page) (2 ^ 12) }
+    then record { page = page; bytes = file_bytes segments (page_start page) page_size }
     ∷ pages_of segments permission (page + 1) n
     else pages_of segments permission (page + 1) n
 

@@ -3,6 +3,7 @@
 use Rattle.std.specs.Prelude.{ℕ, ◌+◌, ◌*◌, ◌%◌, ◌==◌, nat_le, nat_lt}
 use Rattle.std.specs.Prelude.{Bool, false, not, ◌&&◌, ◌||◌, List, [], ◌∷◌, length}
 use Rattle.std.specs.List.{list_all, list_any, sum_by}
+use Rattle.image_model.specs.Files.{file_limit}
 use Rattle.image_model.specs.Pages.{page_of}
 use Rattle.image_model.specs.StartOf.{has_flag, is_on_page, segments_permission}
 use Rattle.image_model.specs.declared.image.Image.{Image}
@@ -72,7 +73,7 @@ abbrev pub file_size : List Segment → ℕ
 file_size segments = 64 + 56 * length segments + sum_by (λ s. length s.bytes) segments
 
 abbrev pub largest_file : ℕ
-largest_file = 16777216
+largest_file = file_limit
 
 -- ---- the whole
 

@@ -5,6 +5,7 @@
 
 mod bytes;
 mod image;
+mod limits;
 mod region;
 mod start;
 mod start_laws;
@@ -12,6 +13,7 @@ mod valid;
 
 pub use bytes::Bytes;
 pub use image::{Image, Segment, Segments};
+pub use limits::{FILE_LIMIT, PAGE_SIZE};
 pub use region::{PageBytes, Region};
 pub use start::Start;
 pub use start_laws::{

@@ -11,7 +11,7 @@ use std::marker::Model;
 ///
 /// The entry is a multiple of 4. The regions rise and don't overlap; each may be read or
 /// executed, and read where it may be written. The pages rise, each once, and have 4,096
-/// bytes. All of them end at or below address 2^38.
+/// bytes, and each is one of a region's. All of them end at or below address 2^38.
 #[derive(Debug, Drop)]
 pub struct Start {
     entry: u64,
@@ -64,5 +64,12 @@ impl Start {
         ensures { result.now ≡ self.now.pages }
     {
         &self.pages
+    }
+
+    /// Does nothing: its contract is that a start is as its type says.
+    pub fn keeps_layout(&self)
+        ensures { IsLayout self.now }
+    {
+        let _ = &self.pages;
     }
 }

@@ -7,6 +7,7 @@ ghost use Rattle.image_model.specs.StartOf.{is_on_page};
 ghost use Rattle.image_model.specs.Valid as spec;
 
 use crate::image::{Image, Segment};
+use crate::limits::{FILE_LIMIT, PAGE_SIZE};
 
 /// An image has at most so many segments.
 const MOST_SEGMENTS: usize = 16;
@@ -23,14 +24,8 @@ const LOWEST_ADDRESS: u64 = 0x1000;
 /// Programs end at or below this address.
 const HIGHEST_ADDRESS: u64 = 0x3f_c000_0000;
 
-/// Memory comes in pages of so many bytes.
-const PAGE_SIZE: u64 = 0x1000;
-
 /// How many bytes an instruction takes.
 const INSTRUCTION_SIZE: u64 = 4;
-
-/// The ELF file of an image has at most so many bytes.
-const LARGEST_FILE: usize = 16_777_216;
 
 /// How many bytes a file header takes.
 const FILE_HEADER_SIZE: usize = 64;
@@ -112,7 +107,7 @@ fn fits_file(segments: &[Segment]) -> bool
     ensures { result ≡ nat_le (spec.file_size segments.now) spec.largest_file }
 {
     let headers = FILE_HEADER_SIZE + PROGRAM_HEADER_SIZE * segments.len();
-    has_at_most(segments, LARGEST_FILE - headers)
+    has_at_most(segments, FILE_LIMIT as usize - headers)
 }
 
 /// Whether the segments have at most so many bytes together.

@@ -5,8 +5,7 @@ ghost use Rattle.image_model.specs.Pages.{page_start, page_limit};
 ghost use Rattle.image_model.specs.StartOf.{file_bytes};
 ghost use Rattle.image_start.specs.Written.{WritesSegment, HasFileBytes, AreZeros};
 
-use crate::page_span::PAGE_SIZE;
-use image_model::{Bytes, Segment};
+use image_model::{Bytes, PAGE_SIZE, Segment};
 use std::alloc::{AllocError, Global};
 
 /// Writes the file bytes that the segment has on the page that begins at the address.

@@ -4,8 +4,7 @@ ghost use Rattle.std.specs.Prelude.{◌≡◌, ℕ, ◌<◌, ◌≤◌, false, t
 ghost use Rattle.image_model.specs.Pages.{page_limit};
 ghost use Rattle.image_model.specs.StartOf as model;
 
-/// The bytes of a page.
-pub const PAGE_SIZE: u64 = 4096;
+use image_model::PAGE_SIZE;
 
 /// The page after the last one on which a program or its stack may lie.
 pub const PAGE_LIMIT: u64 = 1 << 26;

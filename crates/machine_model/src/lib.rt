@@ -9,6 +9,7 @@ mod packet;
 mod range_laws;
 mod run_laws;
 mod stop;
+mod types_keep;
 
 pub use hart::{Hart, REGISTERS};
 pub use machine_laws::{
@@ -18,6 +19,7 @@ pub use packet::{Memory, PACKET_LIMIT, Packet};
 pub use range_laws::{least_failing_is_least, written_pages_add_up};
 pub use run_laws::{each_run_ends, exceptions_keep, instructions_add, one_end};
 pub use stop::Stop;
+pub use types_keep::{packet_can_be_given, start_is_loadable};
 
 #[cfg(test)]
 mod tests;

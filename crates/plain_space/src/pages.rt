@@ -9,12 +9,9 @@ ghost use Rattle.space_api.specs.Flat.{after_store};
 use crate::bytes::{write_number, write_piece, zeros};
 use crate::page::Page;
 use crate::regions::flags_in;
-use image_model::Region;
+use image_model::{PAGE_SIZE, Region};
 use machine_model::Memory;
 use std::alloc::Global;
-
-/// The bytes of a page.
-pub const PAGE_SIZE: u64 = 4096;
 
 /// How many guesses there are of where a page is, one for each rest of a page's number.
 const GUESSES: u64 = 64;
@@ -149,7 +146,7 @@ impl Pages {
             number,
             flags: flags_in(&self.regions, number),
             written: false,
-            bytes: zeros(self.alloc, 4096)?,
+            bytes: zeros(self.alloc, PAGE_SIZE as usize)?,
         };
         if self.list.insert(i, page).is_err() {
             return Err(Memory);

@@ -14,8 +14,9 @@ ghost use Rattle.plain_space.specs.Use.{allows};
 
 use crate::bytes::{clear, read_number, read_piece, read_word};
 use crate::page::Flags;
-use crate::pages::{PAGE_SIZE, Pages};
+use crate::pages::Pages;
 use crate::regions::flags_in;
+use image_model::PAGE_SIZE;
 use space_api::Access;
 
 /// The exception of a fetch that isn't allowed.

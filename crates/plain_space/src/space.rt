@@ -1,7 +1,6 @@
 //! The space.
 
 ghost use Rattle.std.specs.Prelude.{◌≡◌, IfOk};
-ghost use Rattle.image_model.specs.Layout.{IsLayout};
 ghost use Rattle.space_api.specs.Flat.{flat_of};
 ghost use Rattle.plain_space.specs.Sound.{IsSound-prop};
 ghost use Rattle.plain_space.specs.Space.{IsSound, flat_in};
@@ -20,10 +19,10 @@ pub struct PlainSpace {
 
 /// The pages of a start.
 fn pages_of(alloc: Global, start: &Start) -> Result<Pages, Memory>
-    requires { IsLayout start.now }
     ensures sound { IfOk result IsSound }
     ensures flat { IfOk result (λ pages. flat_in pages ≡ flat_of start.now) }
 {
+    start.keeps_layout();
     let regions = Vec::from_slice(alloc, start.regions())?;
     let list = copy_pages(alloc, start.regions(), start.pages())?;
     Ok(Pages {
@@ -40,7 +39,6 @@ impl PlainSpace {
 
     /// The space of a start, of which no page was written.
     pub fn of(alloc: Global, start: &Start) -> Result<PlainSpace, Memory>
-        requires { IsLayout start.now }
         ensures { IfOk result (λ space. flat space ≡ flat_of start.now) }
     {
         let pages = pages_of(alloc, start)?;

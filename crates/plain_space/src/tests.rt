@@ -1,9 +1,6 @@
 //! Each call of a space once, with values worked by hand: bytes stand the lowest first, pages
 //! have 4,096 bytes, and a page fault is cause 12, 13 or 15.
 
-ghost use Rattle.std.specs.Prelude.{IfOk};
-ghost use Rattle.image_model.specs.Layout.{IsLayout};
-
 use super::*;
 use image_model::{Bytes, PageBytes, Region};
 use space_api::{Access, Space, Start};
@@ -12,10 +9,8 @@ use std::process::Abort;
 use std::test::Fail;
 
 /// Pages 16 and 17 are code, 18 and 19 are data, and 20 may only be read; 16 and 18 are full of
-/// sevens, and so is page 30, which is in no region.
-fn start(alloc: Global) -> Result<Start, AllocError>
-    ensures { IfOk result (λ start. IsLayout start) }
-{
+/// sevens. No other page may be accessed.
+fn start(alloc: Global) -> Result<Start, AllocError> {
     let code = Region {
         page: 16,
         count: 2,
@@ -39,7 +34,6 @@ fn start(alloc: Global) -> Result<Start, AllocError>
     };
     let first = Bytes::from_vec(vec![in alloc; 7; 4096]?);
     let second = Bytes::from_vec(vec![in alloc; 7; 4096]?);
-    let third = Bytes::from_vec(vec![in alloc; 7; 4096]?);
     let regions = vec![in alloc; code, writable, constant]?;
     let pages = vec![in alloc;
         PageBytes {
@@ -49,10 +43,6 @@ fn start(alloc: Global) -> Result<Start, AllocError>
         PageBytes {
             page: 18,
             bytes: second
-        },
-        PageBytes {
-            page: 30,
-            bytes: third
         },
     ]?;
     Ok(Start::new(0x1_0000, regions, pages))

@@ -10,8 +10,9 @@ ghost use Rattle.machine_model.specs.Machine.{address, low_bytes};
 ghost use Rattle.space_api.specs.Flat.{is_writable, after_store};
 ghost use Rattle.space_api.specs.Outcomes.{EndsRead};
 
-use crate::pages::{PAGE_SIZE, Pages};
+use crate::pages::Pages;
 use crate::reads::{Use, part_of};
+use image_model::PAGE_SIZE;
 use machine_model::Memory;
 use space_api::Access;
 

@@ -153,6 +153,26 @@ fn texts_that_are_too_long_or_no_text(rt: HostRuntime) -> Result<(), Fail> {
     Ok(())
 }
 
+/// What a text with an unknown key of so many `k` is.
+fn long_key(alloc: Global, count: usize) -> Result<String, AllocError> {
+    let mut text = vec![in alloc; b'k'; count]?;
+    text.extend_from_slice(b" = 1\n")?;
+    answer(alloc, &text, &mut files(alloc)?)
+}
+
+/// Sixty-four `k`, with what stands before and behind them.
+const LONGEST_KEY: &str =
+    "Unknown kkkkkkkkkkkkkkkkkkkkkkkkkkkkkkkkkkkkkkkkkkkkkkkkkkkkkkkkkkkkkkkk...";
+
+#[test]
+fn a_key_is_shown_up_to_its_first_64_bytes(rt: HostRuntime) -> Result<(), Fail> {
+    let whole = long_key(rt.alloc(), 64)?;
+    assert!(rt; LONGEST_KEY.strip_suffix("...") == Some(whole.as_str()));
+    assert!(rt; long_key(rt.alloc(), 65)?.as_str() == LONGEST_KEY);
+    assert!(rt; long_key(rt.alloc(), 100_000)?.as_str() == LONGEST_KEY);
+    Ok(())
+}
+
 /// Adds a layer with the image of the file.
 fn add_layer(alloc: Global, text: &mut String, number: u32, file: &str) -> Result<(), AllocError> {
     let layer = format!(in alloc;

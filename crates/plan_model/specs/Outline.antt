@@ -1,7 +1,8 @@
 -- What a plan is, and what holds of each plan.
 use Rattle.std.specs.Prelude.{◌≡◌, ℕ, ◌-◌, ◌%◌, ◌^◌, ◌<◌, ◌≤◌, List, length, map}
-use Rattle.std.specs.Prelude.{Some, IfSome, IsSomeAnd, slice_get}
-use Rattle.image_model.specs.Layout.{Layout}
+use Rattle.std.specs.Prelude.{Some, IfSome, IsSomeAnd, slice_get, All}
+use Rattle.image_model.specs.Layout.{Layout, IsLayout}
+use Rattle.machine_model.specs.Valid.{HasBytes, IsPacket}
 use Rattle.plan_model.specs.Stacks.{AreStacks}
 use Rattle.plan_model.specs.declared.function.PlanFunction.{PlanFunction}
 use Rattle.plan_model.specs.declared.layer.PlanLayer.{PlanLayer}
@@ -53,15 +54,28 @@ abbrev pub AreFunctions : List PlanFunction → (layers : ℕ) → Type 0
 AreFunctions functions layers = (number : ℕ) (f : PlanFunction)
     → slice_get functions number ≡ Some f → f.layer < layers
 
-pub record IsPlan (o : Outline) : Type 0 where
+-- numbers, layers and functions fit together, with the starts that there are
+pub record AreParts (o : Outline) : Type 0 where
   pub numbers : AreNumbers o.numbers
   pub layer_count : IsFrom 1 64 (length o.layers)
   pub layers : AreLayers o.layers (length o.starts)
   pub function_count : IsFrom 1 64 (length o.functions)
   pub functions : AreFunctions o.functions (length o.layers)
 
+-- a machine can be loaded with it
+pub record IsStart (l : Layout) : Type 0 where
+  pub layout : IsLayout l
+  pub entry : l.entry < 2 ^ 64
+  pub bytes : HasBytes l
+
+pub record IsPlan (o : Outline) : Type 0 where
+  pub parts : AreParts o
+  -- a machine can be loaded with each start, and given the packets of each layer
+  pub starts : All IsStart o.starts
+  pub packets : All (λ (l : PlanLayer). All IsPacket l.packets) o.layers
+
 -- the names and stacks that are kept beside an outline are its own
 pub record HoldsPlan (o : Outline) (kept_names kept_stacks : List (List ℕ)) : Type 0 where
-  pub plan : IsPlan o
+  pub parts : AreParts o
   pub names : kept_names ≡ names_of o.functions
   pub stacks : AreStacks o.layers (length o.layers) kept_stacks

@@ -3,14 +3,17 @@
 #![tactic(auto)]
 
 mod function;
+mod laws;
 mod layer;
 mod numbers;
 mod plan;
+mod sound;
 mod stacks;
 mod text;
 
 pub use function::{Names, PlanFunction};
 pub use image_model::Start;
+pub use laws::stacks_have_no_layer_twice;
 pub use layer::{Packets, PlanLayer};
 pub use machine_model::Packet;
 pub use numbers::Numbers;

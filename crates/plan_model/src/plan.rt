@@ -1,12 +1,13 @@
 //! A plan.
 
 ghost use Rattle.std.specs.Prelude.{◌≡◌, ◌<◌, length, map, slice_get, IfOk, IfSome};
-ghost use Rattle.plan_model.specs.Outline.{Outline, IsPlan, names_of};
+ghost use Rattle.plan_model.specs.Outline.{Outline, AreParts, IsPlan, names_of};
 ghost use Rattle.plan_model.specs.Stacks.{stack};
 
 use crate::function::{Names, PlanFunction};
 use crate::layer::PlanLayer;
 use crate::numbers::Numbers;
+use crate::sound::{packets_can_be_given, starts_can_be_loaded};
 use crate::stacks::{Stack, names, stacks};
 use image_model::Start;
 use std::alloc::{AllocError, Global};
@@ -48,7 +49,7 @@ impl Model for Plan {
 }
 
 impl Plan {
-    /// A plan of these parts, which are as the type asks. The only error is want of memory.
+    /// A plan of these parts, which fit together. The only error is want of memory.
     pub fn new(
         alloc: Global,
         numbers: Numbers,
@@ -56,7 +57,7 @@ impl Plan {
         functions: Vec<PlanFunction>,
         starts: Vec<Start>,
     ) -> Result<Plan, AllocError>
-        requires { IsPlan (record {
+        requires { AreParts (record {
           numbers = numbers;
           layers = layers.items;
           functions = functions.items;
@@ -126,10 +127,11 @@ impl Plan {
         self.stacks[usize::from(layer)].as_slice()
     }
 
-    /// Does nothing: that the plan is as the type asks is what it ensures.
+    /// Changes nothing: what holds of every plan is what it ensures.
     pub fn is_sound(&self)
         ensures { IsPlan self.now }
     {
-        let _numbers = &self.numbers;
+        starts_can_be_loaded(&self.starts);
+        packets_can_be_given(&self.layers);
     }
 }

@@ -3,6 +3,7 @@ pub mod Faults
 pub mod Functions
 pub mod Keys
 pub mod Layers
+pub mod Shown
 pub mod Tables
 pub mod Top
 pub mod Values

@@ -4,6 +4,7 @@ ghost use Rattle.std.specs.Prelude.{◌≡◌};
 ghost use Rattle.plan_tables.specs.declared.fault.PlanFault.TheVariants.{Memory};
 
 use crate::key::Key;
+use crate::shown::Shown;
 use elf64::ElfFault;
 use plan_model::Text;
 use std::alloc::{AllocError, AllocFailed};
@@ -46,7 +47,7 @@ impl fmt::Display for PlanFault {
         match self {
             PlanFault::Toml => f.write_str("Toml"),
             PlanFault::Missing(key) => write!(f, "Missing {key}"),
-            PlanFault::Unknown(text) => write!(f, "Unknown {}", text.as_str()),
+            PlanFault::Unknown(text) => { write!(f, "Unknown {}", Shown(text.as_str().as_bytes())) }
             PlanFault::Shape(key) => write!(f, "Shape {key}"),
             PlanFault::Range(key) => write!(f, "Range {key}"),
             PlanFault::Name => f.write_str("Name"),

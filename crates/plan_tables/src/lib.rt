@@ -9,6 +9,7 @@ mod layer_table;
 mod members;
 mod packets;
 mod rule;
+mod shown;
 mod tables;
 mod top;
 

@@ -1,5 +1,6 @@
 -- What the images of a plan start with.
-use Rattle.std.specs.Prelude.{ℕ, ◌+◌, nat_lt, Bool, ◌||◌, if◌then◌else◌, List, [], ◌∷◌, length}
+use Rattle.std.specs.Prelude.{ℕ, ◌+◌, ◌<◌, nat_lt, Bool, ◌||◌, if◌then◌else◌, List, [], ◌∷◌}
+use Rattle.std.specs.Prelude.{length, take, IsOk}
 use Rattle.std.specs.Prelude.{Option, Some, None, Result, Ok, Err}
 use Rattle.std.specs.List.{sum_by}
 use Rattle.elf64.specs.Elf.{elf}
@@ -74,3 +75,8 @@ unfoldable pub starts_of : (List ℕ → Option (List ℕ)) → (stack : ℕ) �
 starts_of file_of stack [] before = Ok []
 starts_of file_of stack (name ∷ names) before =
     starts_with stack (file_image before (file_of name)) (starts_of file_of stack names)
+
+-- the reading stops at one of these files, whose image comes after images that were all right
+abbrev pub StopsAtOne : (List ℕ → Option (List ℕ)) → (stack : ℕ) → List (List ℕ) → Type 0
+StopsAtOne file_of stack names = (i : ℕ) × ((i < length names)
+    × IsOk (starts_of file_of stack (take i names) no_totals))

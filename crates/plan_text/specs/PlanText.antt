@@ -12,7 +12,7 @@ use Rattle.plan_tables.specs.Tables.{document, each_table_fault, layers_at, func
 use Rattle.plan_tables.specs.Top.{numbers_at}
 use Rattle.plan_tables.specs.declared.fault.PlanFault.{PlanFault}
 use Rattle.plan_tables.specs.declared.fault.PlanFault.TheVariants as faults
-use Rattle.plan_text.specs.Images.{starts_of, no_totals}
+use Rattle.plan_text.specs.Images.{starts_of, no_totals, StopsAtOne}
 use Rattle.plan_text.specs.Placing.{names_fault, below_fault, placed_functions, placed_layers}
 use Rattle.plan_text.specs.Placing.{image_names}
 
@@ -93,3 +93,9 @@ IsOfImages faults.Memory = ⊥
 -- the text's first fault, or where the text is right a fault of an image or its file
 abbrev pub IsInOrder : List ℕ → PlanFault → Type 0
 IsInOrder bytes fault = (sketch bytes ≡ Err fault) ⊎ (IsOk (sketch bytes) × IsOfImages fault)
+
+-- the text is right, and the reading stops at one of its images, each before being right
+pub record StopsAtFile (bytes : List ℕ) (file_of : List ℕ → Option (List ℕ)) : Type 0 where
+  pub said : Sketch
+  pub says : sketch bytes ≡ Ok said
+  pub stops : StopsAtOne file_of said.numbers.stack_bytes said.images

@@ -13,13 +13,11 @@ ghost use Rattle.plan_text.specs.PlanText.{IsOfImages};
 
 use edge_files::{FileFault, Files};
 use elf64::{ElfFault, Image, ImageFault, Segment, entry_is_sound, read_image};
+use image_model::FILE_LIMIT;
 use image_start::start_of;
 use plan_model::{Start, Text};
 use plan_tables::PlanFault;
 use std::alloc::Global;
-
-/// The most bytes of a file.
-const FILE_LIMIT: u64 = 16_777_216;
 
 /// The most bytes of all files of a plan, and the most that they load.
 const TOTAL_LIMIT: u64 = 67_108_864;
@@ -47,6 +45,8 @@ pub fn starts<F: Files>(
         spec.starts_of file_of stack names.now spec.no_totals ≡ Err fault)) }
     ensures kind { IfErr result (λ fault. fault ≢ PlanFault.Memory → IsOfImages fault) }
     ensures failed { result ≡ Err PlanFault.File → Rises (F.faults files.old) (F.faults files.new) }
+    ensures place { result ≡ Err PlanFault.File → IfSome (F.contents files.old) (λ file_of.
+        spec.StopsAtOne file_of stack names.now) }
     ensures kept { F.contents files.new ≡ F.contents files.old }
     ensures counted { result ≢ Err PlanFault.File → F.faults files.new ≡ F.faults files.old }
     ensures monotone { F.faults files.old ≤ F.faults files.new }

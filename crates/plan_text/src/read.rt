@@ -24,8 +24,9 @@ use std::alloc::Global;
 /// - `File`, `Image`: for each image in order. The image at which all files together, or the file
 ///   bytes of their segments together, pass 67,108,864 bytes is `Image(TooBig)`.
 ///
-/// `File` comes only where a read failed, and the count of faults of the files rose. `Memory` has
-/// no cause that could be named. The files stay as they are.
+/// `File` comes exactly where a read failed and the count of faults of the files rose: the text
+/// was right then, and so was each image before. `Memory` has no cause that could be named. The
+/// files stay as they are.
 pub fn read_plan<F: Files>(alloc: Global, bytes: &[u8], files: &mut F) -> Result<Plan, PlanFault>
     ensures plan { IfOk result (λ plan. IfSome (F.contents files.old) (λ file_of.
         spec.plan bytes.now file_of ≡ Ok plan)) }
@@ -35,6 +36,8 @@ pub fn read_plan<F: Files>(alloc: Global, bytes: &[u8], files: &mut F) -> Result
     ensures order { IfErr result (λ fault. fault ≢ PlanFault.Memory →
         spec.IsInOrder bytes.now fault) }
     ensures failed { result ≡ Err PlanFault.File → Rises (F.faults files.old) (F.faults files.new) }
+    ensures place { result ≡ Err PlanFault.File → IfSome (F.contents files.old) (λ file_of.
+        spec.StopsAtFile bytes.now file_of) }
     ensures kept { F.contents files.new ≡ F.contents files.old }
     ensures counted { result ≢ Err PlanFault.File → F.faults files.new ≡ F.faults files.old }
     ensures monotone { F.faults files.old ≤ F.faults files.new }

@@ -3,9 +3,11 @@
 #![tactic(auto)]
 
 mod access;
+mod first;
 mod space;
 
 pub use access::Access;
-pub use image_model::{PageBytes, Region, Start};
+pub use first::first_hart;
+pub use image_model::{PAGE_SIZE, PageBytes, Region, Start};
 pub use machine_model::{Hart, Memory, Packet};
 pub use space::Space;

@@ -16,6 +16,8 @@ frames = 64|frames = 64;frames = 64|Toml
 frames = 64|frames = |Toml
 frames = 64|frames = 64;frame = 1|Unknown frame
 frames = 64|zz = 1;Z = 1|Unknown Z
+frames = 64|\" a~\" = 1|Unknown  a~
+frames = 64|\"\\t\\u001f\\u007f\\u00e9\\\\\" = 1|Unknown \\x09\\x1f\\x7f\\xc3\\xa9\\
 workers = 1||Missing workers
 workers = 1|workers = true|Shape workers
 workers = 1|workers = 0|Range workers

@@ -9,7 +9,7 @@ returns-clause-sound c =
     record {
       ordered = rw (c.in_ok-regions.ensures.items, c.regions.ensures)
           (copies_sound c.args.start.now.regions 0 c.args.start.now.pages
-          c.in_ok-list.list.items c.requires.pages copies);
+          c.in_ok-list.list.items c.keeps_layout.ensures.pages copies);
     }
 
 pub returns-clause-flat : goal.returns-clause-flat

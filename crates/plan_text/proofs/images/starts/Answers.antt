@@ -1,6 +1,7 @@
 use Rattle.std.proofs.Common.{◌≡◌, ◌∙◌, sym, get_or, rules}
 use Rattle.std.proofs.lemmas.Result.{err_from_is_err_and}
 use Rattle.plan_text.proofs.Started.{started_stop, started_more, started_whole}
+use Rattle.plan_text.proofs.Started.{started_before}
 use Rattle.plan_text.proofs.images.starts.Goals as goal
 
 pub returns-in_err-start-clause-refused : goal.returns-in_err-start-clause-refused
@@ -36,3 +37,8 @@ pub returns-clause-starts : goal.returns-clause-starts
 returns-clause-starts g c =
     started_whole (g.F.Files.contents c.args.files.now) c.args.stack c.args.names.now
     c.names.name-index c.names.starts.items c.names.totals c.names-test.false c.names.invariant.0
+
+pub returns-in_err-start-clause-place : goal.returns-in_err-start-clause-place
+returns-in_err-start-clause-place g c = λ failed.
+    started_before (g.F.Files.contents c.args.files.now) c.args.stack c.args.names.now
+    c.names.name-index c.names.starts.items c.names.totals c.names-test.true c.names.invariant.0
