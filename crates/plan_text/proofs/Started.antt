@@ -1,5 +1,6 @@
 -- The starts of images, one after another.
-use Rattle.std.proofs.Common.{◌≡◌, ℕ, ◌+◌, ◌<◌, ◌≤◌, ◌^◌, List, [], ◌∷◌, ◌++◌, length, drop, take, get_or}
+use Rattle.std.proofs.Common.{◌≡◌, ℕ, ◌+◌, ◌<◌, ◌≤◌, ◌^◌, List, [], ◌∷◌, ◌++◌, length}
+use Rattle.std.proofs.Common.{drop, take, get_or}
 use Rattle.std.proofs.Common.{refl, ap, sym, ◌∙◌, arith, append_assoc, append-nil, false}
 use Rattle.std.proofs.Common.{Option, Some, None, IfSome, IsSomeAnd, Result, Ok, Err, length-append}
 use Rattle.std.proofs.lemmas.Bool.Decides.{nat_tests}
