@@ -3,7 +3,8 @@
 #
 #   crate_tables.sh           prints both
 #   crate_tables.sh --check   compares them with the documents', and crates.txt with what its
-#                             head says; status 1 where they differ
+#                             head says; status 1 where they differ, or where a crate of the
+#                             program isn't in the drawing of layers above the first table
 #   crate_tables.sh --write   makes the documents' anew
 #
 # A table stands in its document between the lines of marks() below.
@@ -87,9 +88,16 @@ proofs() {
         END { print "| " none " | nothing |" }'
 }
 
-# Prints what crates.txt lacks of what its head says.
+# Prints the words of what ARCHITECTURE.md draws, a line each.
+drawn() {
+    # shellcheck disable=SC2016 # (it is a program for sed)
+    sed -n '/^```/,/^```/p' docs/ARCHITECTURE.md | grep -oE '[a-z0-9_]+'
+}
+
+# Prints what crates.txt lacks of what its head says, and what the drawing lacks.
 faults() {
-    rows | awk -F '|' -v program="$program" '
+    drawn >"$work/drawn"
+    rows | awk -F '|' -v program="$program" -v drawn="$work/drawn" '
         function mark(name, count, words, at) {
             if (!(name in below) || is_part[name]++) return
             count = split(below[name], words, " ")
@@ -98,6 +106,7 @@ faults() {
         { names[NR] = $2; group[$2] = $1; holds[$2] = $3; proved[$2] = $4; below[$2] = $5 }
         END {
             mark(program)
+            while ((getline word <drawn) > 0) is_drawn[word] = 1
             for (at = 1; at <= NR; at++) {
                 name = names[at]
                 if (group[name] == "") print name " is in no group"
@@ -107,6 +116,8 @@ faults() {
                 if (used && !is_part[name])
                     print name ": no command uses it, and its group does not say so"
                 if (!used && is_part[name]) print name ": its group says that no command uses it"
+                if (is_part[name] && !(name in is_drawn))
+                    print name ": the layers of docs/ARCHITECTURE.md do not show it"
             }
         }'
 }
@@ -134,7 +145,7 @@ is_sound() {
     local found
     found=$(faults)
     [ -n "$found" ] || return 0
-    say "crates.txt:"
+    say "of crates.txt and the drawing:"
     echo "$found" >&2
     return 1
 }

@@ -144,7 +144,7 @@ is_link() {
 }
 
 is_file() {
-    [ -n "$(find . -path ./.git -prune -o -name "$1" -print -quit)" ]
+    [ -n "$(find . \( -path ./.git -o -path '*/out' \) -prune -o -name "$1" -print -quit)" ]
 }
 
 # is_in CRATE WORD..: whether each word stands in the crate.
