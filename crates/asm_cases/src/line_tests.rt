@@ -1,13 +1,13 @@
 //! Lines worked out by hand from the RISC-V unprivileged manual ("RV32/64G Instruction Set
 //! Listings").
 
-use asm_lines::{AsmKind, Statement, read_statement};
+use asm_lines::{AsmKind, Data, Statement, read_statement};
 use std::test::Fail;
 
 /// The word that a line within a segment says, or none where it says something else.
 fn word_of(line: &str) -> Option<u32> {
     match read_statement(true, line.as_bytes()) {
-        Ok(Statement::Word(word)) => Some(word),
+        Ok(Statement::Data(Data::Word(word))) => Some(word),
         Ok(_) | Err(_) => None,
     }
 }
@@ -72,11 +72,16 @@ fn statements(rt: HostRuntime) {
             Ok(Statement::Entry(b"loop"))
         )
     );
-    assert!(rt; matches!(read_statement(true, b".byte -1"), Ok(Statement::Byte(255))));
+    assert!(rt;
+        matches!(
+            read_statement(true, b".byte -1"),
+            Ok(Statement::Data(Data::Byte(255)))
+        )
+    );
     assert!(rt;
         matches!(
             read_statement(true, b".zero 0x10"),
-            Ok(Statement::Zeros(16))
+            Ok(Statement::Data(Data::Zeros(16)))
         )
     );
 }

@@ -1,6 +1,6 @@
 -- The first line of pieces in parts.
 use Rattle.std.proofs.Common.{◌≡◌, ℕ, zero, suc, ◌+◌, ◌<◌, Bool, true, false, List, [], ◌∷◌, ◌++◌, cond}
-use Rattle.std.proofs.Common.{Option, Some, None, length, get_or, drop, map, refl, sym, ap, subst}
+use Rattle.std.proofs.Common.{Option, Some, None, length, get_or, drop, map, refl, sym, ap}
 use Rattle.std.proofs.Common.{◌∙◌, arith}
 use Rattle.std.proofs.lemmas.List.{at_drop_more}
 use Rattle.asm_lines.specs.Statement.{or_else}

@@ -1,5 +1,5 @@
 -- The labels that a text uses, once the addresses of all are known.
-use Rattle.std.specs.Prelude.{ℕ, ◌==◌, min, Bool, true, false, not, if◌then◌else◌}
+use Rattle.std.specs.Prelude.{ℕ, min, Bool, false, not, if◌then◌else◌}
 use Rattle.std.specs.Prelude.{ℤ, pos, negsuc, ◌-ℤ◌, List, [], ◌∷◌, is_err, Result}
 use Rattle.std.specs.Prelude.{Option, Some, None, option_map, is_some}
 use Rattle.std.specs.List.{flat_map}

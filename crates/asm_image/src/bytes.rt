@@ -7,14 +7,14 @@ ghost use Rattle.asm_image.specs.ImageOf as model;
 ghost use Rattle.asm_image.specs.Sizes.{part_size};
 ghost use Rattle.asm_image.specs.Uses.{is_far, first_line, offset, is_outside, branch_offset};
 ghost use Rattle.asm_image.specs.Uses.{jump_offset};
-ghost use Rattle.asm_lines.specs.Said.{said};
+ghost use Rattle.asm_lines.specs.Said.{said_data};
 ghost use Rattle.asm_program.specs.Held.{piece_of, part_of, labels_of};
 ghost use Rattle.asm_program.specs.Program.{byte_count};
 ghost use Rattle.instruction_model.specs.InstructionWord.{word_of, IsRegister};
 ghost use Rattle.instruction_model.specs.declared.instruction.Inst.TheVariants.{Branch, Jal};
 
 use crate::uses::{BRANCH_LIMIT, JUMP_LIMIT, address_of, reach};
-use asm_lines::Statement;
+use asm_lines::Data;
 use asm_program::{Labels, Part, Piece};
 use image_model::{Bytes, Segment};
 use rv_code::{BranchOp, Inst, encode};
@@ -53,23 +53,19 @@ fn bytes_of(alloc: Global, labels: &Labels, part: &Part) -> Result<Vec<u8>, Allo
 /// Adds the bytes of a piece of the segment at the address.
 fn add_piece(bytes: &mut Vec<u8>, labels: &Labels, at: u64, piece: &Piece) -> Result<(), AllocError>
     requires near { is_far (labels_of labels.now) (piece_of at piece.now) ≡ false }
-    requires room { vec_len bytes.old + byte_count (said piece.now.says) ≤ 2 ^ 24 }
+    requires room { vec_len bytes.old + byte_count (said_data piece.now.says) ≤ 2 ^ 24 }
     ensures { OnOk result (bytes.new.items ≡ bytes.old.items
         ++ model.piece_bytes (labels_of labels.now) (piece_of at piece.now)) }
 {
     let address = address_of(at, piece);
     match piece.says {
-        Statement::Nothing => Ok(()),
-        Statement::Label(_) => Ok(()),
-        Statement::Segment { .. } => Ok(()),
-        Statement::Entry(_) => Ok(()),
-        Statement::Word(word) => add_word(bytes, word),
-        Statement::Byte(byte) => add_byte(bytes, byte),
-        Statement::Zeros(count) => add_zeros(bytes, count as usize),
-        Statement::BranchTo { op, rs1, rs2, name } => {
+        Data::Word(word) => add_word(bytes, word),
+        Data::Byte(byte) => add_byte(bytes, byte),
+        Data::Zeros(count) => add_zeros(bytes, count as usize),
+        Data::BranchTo { op, rs1, rs2, name } => {
             add_word(bytes, branch_word(labels, address, op, rs1, rs2, name))
         }
-        Statement::JumpTo { rd, name } => add_word(bytes, jump_word(labels, address, rd, name)),
+        Data::JumpTo { rd, name } => add_word(bytes, jump_word(labels, address, rd, name)),
     }
 }
 

@@ -1,7 +1,7 @@
 //! Pieces that go to a label.
 
 ghost use Rattle.std.specs.Prelude.{◌≡◌, ◌-◌, ◌<◌, ◌≤◌, ◌^◌, pos, negsuc, is_some, false};
-ghost use Rattle.asm_lines.specs.Said.{said};
+ghost use Rattle.asm_lines.specs.Said.{said_data};
 ghost use Rattle.asm_lines.specs.Statement.{ranged_even};
 ghost use Rattle.asm_program.specs.Held.{piece_of, labels_of};
 ghost use Rattle.asm_image.specs.ImageOf.{reach};
@@ -9,7 +9,7 @@ ghost use Rattle.asm_image.specs.Offsets.{IsWithin};
 ghost use Rattle.asm_image.specs.Uses as model;
 
 use crate::distance::offset_within;
-use asm_lines::Statement;
+use asm_lines::Data;
 use asm_program::{Labels, Piece};
 
 /// A branch goes back up to so many bytes, and ahead by less.
@@ -31,15 +31,11 @@ pub fn is_far(labels: &Labels, at: u64, piece: &Piece) -> bool
 {
     let address = address_of(at, piece);
     match piece.says {
-        Statement::Nothing => false,
-        Statement::Label(_) => false,
-        Statement::Segment { .. } => false,
-        Statement::Entry(_) => false,
-        Statement::Word(_) => false,
-        Statement::Byte(_) => false,
-        Statement::Zeros(_) => false,
-        Statement::BranchTo { name, .. } => is_outside(labels, name, address, BRANCH_LIMIT),
-        Statement::JumpTo { name, .. } => is_outside(labels, name, address, JUMP_LIMIT),
+        Data::Word(_) => false,
+        Data::Byte(_) => false,
+        Data::Zeros(_) => false,
+        Data::BranchTo { name, .. } => is_outside(labels, name, address, BRANCH_LIMIT),
+        Data::JumpTo { name, .. } => is_outside(labels, name, address, JUMP_LIMIT),
     }
 }
 
@@ -73,18 +69,14 @@ pub fn reach(labels: &Labels, name: &[u8], address: u128, limit: u32) -> i32
 
 /// Whether a piece goes to a label that isn't defined.
 pub fn is_lost(labels: &Labels, piece: &Piece) -> bool
-    ensures { result ≡ model.is_lost_for (labels_of labels.now) (said piece.now.says) }
+    ensures { result ≡ model.is_lost_for (labels_of labels.now) (said_data piece.now.says) }
 {
     match piece.says {
-        Statement::Nothing => false,
-        Statement::Label(_) => false,
-        Statement::Segment { .. } => false,
-        Statement::Entry(_) => false,
-        Statement::Word(_) => false,
-        Statement::Byte(_) => false,
-        Statement::Zeros(_) => false,
-        Statement::BranchTo { name, .. } => !is_defined(labels, name),
-        Statement::JumpTo { name, .. } => !is_defined(labels, name),
+        Data::Word(_) => false,
+        Data::Byte(_) => false,
+        Data::Zeros(_) => false,
+        Data::BranchTo { name, .. } => !is_defined(labels, name),
+        Data::JumpTo { name, .. } => !is_defined(labels, name),
     }
 }
 

@@ -9,7 +9,7 @@ ghost use Rattle.asm_lines.specs.declared.mnemonic.Directive.TheVariants as dire
 
 use crate::label::is_name;
 use crate::operand::{number_in, number_of, ranged};
-use crate::{AsmKind, Directive, Statement};
+use crate::{AsmKind, Data, Directive, Statement};
 use asm_words::{behind_word, first_word, is_blank, one_word};
 
 /// The highest number of 64 bits.
@@ -147,7 +147,7 @@ fn word(text: &[u8]) -> Result<Statement<'_>, AsmKind>
     ensures { told result ≡ model.directive_meaning directives.Word text.now }
 {
     let z = only_number(-(1 << 31), (1 << 32) - 1, text)?;
-    Ok(Statement::Word(low_word(z)))
+    Ok(Statement::Data(Data::Word(low_word(z))))
 }
 
 /// A byte: a number from -128 to 255.
@@ -155,7 +155,7 @@ fn byte(text: &[u8]) -> Result<Statement<'_>, AsmKind>
     ensures { told result ≡ model.directive_meaning directives.Byte text.now }
 {
     let z = only_number(-128, 255, text)?;
-    Ok(Statement::Byte(low_byte(z)))
+    Ok(Statement::Data(Data::Byte(low_byte(z))))
 }
 
 /// So many bytes 0, below 2^64.
@@ -163,5 +163,5 @@ fn zeros(text: &[u8]) -> Result<Statement<'_>, AsmKind>
     ensures { told result ≡ model.directive_meaning directives.Zero text.now }
 {
     let z = only_number(0, LAST, text)?;
-    Ok(Statement::Zeros(z.unsigned_abs() as u64))
+    Ok(Statement::Data(Data::Zeros(z.unsigned_abs() as u64)))
 }

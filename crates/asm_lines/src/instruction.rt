@@ -10,7 +10,7 @@ use crate::label::is_name;
 use crate::operand::{
     even_number_in, one_register, register_and_address, register_of, three_registers, two_registers,
 };
-use crate::{AsmKind, Mnemonic, Statement};
+use crate::{AsmKind, Data, Mnemonic, Statement};
 use asm_words::{is_blank, three_operands, two_operands};
 use rv_code::{BranchOp, ImmOp, ImmWOp, Inst, LoadOp, RegOp, RegWOp, StoreOp, encode};
 
@@ -45,20 +45,20 @@ fn branch_to(op: BranchOp, rs1: u8, rs2: u8, to: &[u8]) -> Result<Statement<'_>,
     ensures { told result ≡ model.branch_to op rs1 rs2 to.now }
 {
     if is_name(to) {
-        return Ok(Statement::BranchTo {
+        return Ok(Statement::Data(Data::BranchTo {
             op,
             rs1,
             rs2,
             name: to,
-        });
+        }));
     }
     let offset = even_number_in(-4096, 4095, to)?;
-    Ok(Statement::Word(encode(&Inst::Branch {
+    Ok(Statement::Data(Data::Word(encode(&Inst::Branch {
         op,
         rs1,
         rs2,
         offset,
-    })))
+    }))))
 }
 
 /// A jump to a label, or by an offset in bytes, which is even and has 21 bits.
@@ -67,10 +67,10 @@ fn jump_to(rd: u8, to: &[u8]) -> Result<Statement<'_>, AsmKind>
     ensures { told result ≡ model.jump_to rd to.now }
 {
     if is_name(to) {
-        return Ok(Statement::JumpTo { rd, name: to });
+        return Ok(Statement::Data(Data::JumpTo { rd, name: to }));
     }
     let offset = even_number_in(-1_048_576, 1_048_575, to)?;
-    Ok(Statement::Word(encode(&Inst::Jal { rd, offset })))
+    Ok(Statement::Data(Data::Word(encode(&Inst::Jal { rd, offset }))))
 }
 
 /// `rs1, rs2, to`.
@@ -104,7 +104,7 @@ fn alone<'a>(inst: &Inst, text: &'a [u8]) -> Result<Statement<'a>, AsmKind>
     ensures { told result ≡ model.of_nothing inst.now text.now }
 {
     if is_blank(text) {
-        Ok(Statement::Word(encode(inst)))
+        Ok(Statement::Data(Data::Word(encode(inst))))
     } else {
         Err(AsmKind::BadShape)
     }
@@ -116,7 +116,7 @@ fn lui(text: &[u8]) -> Result<Statement<'_>, AsmKind>
 {
     let (rd, z) = one_register(0, 0xf_ffff, text)?;
     let n = z.unsigned_abs();
-    Ok(Statement::Word(encode(&Inst::Lui { rd, n })))
+    Ok(Statement::Data(Data::Word(encode(&Inst::Lui { rd, n }))))
 }
 
 /// `rd, n`, where `n` is bits 31..12 of the word.
@@ -125,7 +125,7 @@ fn auipc(text: &[u8]) -> Result<Statement<'_>, AsmKind>
 {
     let (rd, z) = one_register(0, 0xf_ffff, text)?;
     let n = z.unsigned_abs();
-    Ok(Statement::Word(encode(&Inst::Auipc { rd, n })))
+    Ok(Statement::Data(Data::Word(encode(&Inst::Auipc { rd, n }))))
 }
 
 /// `rd, imm(rs1)`.
@@ -133,7 +133,7 @@ fn jalr(text: &[u8]) -> Result<Statement<'_>, AsmKind>
     ensures { told result ≡ model.instruction mnemonics.Jalr text.now }
 {
     let (rd, rs1, imm) = register_and_address(text)?;
-    Ok(Statement::Word(encode(&Inst::Jalr { rd, rs1, imm })))
+    Ok(Statement::Data(Data::Word(encode(&Inst::Jalr { rd, rs1, imm }))))
 }
 
 /// `rd, imm(rs1)`.
@@ -141,7 +141,7 @@ fn load(op: LoadOp, text: &[u8]) -> Result<Statement<'_>, AsmKind>
     ensures { told result ≡ model.instruction (mnemonics.Load op) text.now }
 {
     let (rd, rs1, imm) = register_and_address(text)?;
-    Ok(Statement::Word(encode(&Inst::Load { op, rd, rs1, imm })))
+    Ok(Statement::Data(Data::Word(encode(&Inst::Load { op, rd, rs1, imm }))))
 }
 
 /// `rs2, imm(rs1)`.
@@ -149,7 +149,7 @@ fn store(op: StoreOp, text: &[u8]) -> Result<Statement<'_>, AsmKind>
     ensures { told result ≡ model.instruction (mnemonics.Store op) text.now }
 {
     let (rs2, rs1, imm) = register_and_address(text)?;
-    Ok(Statement::Word(encode(&Inst::Store { op, rs1, rs2, imm })))
+    Ok(Statement::Data(Data::Word(encode(&Inst::Store { op, rs1, rs2, imm }))))
 }
 
 /// `rd, rs1, imm`.
@@ -157,7 +157,7 @@ fn op_imm(op: ImmOp, text: &[u8]) -> Result<Statement<'_>, AsmKind>
     ensures { told result ≡ model.instruction (mnemonics.OpImm op) text.now }
 {
     let (rd, rs1, imm) = two_registers(imm_low(op), imm_high(op), text)?;
-    Ok(Statement::Word(encode(&Inst::OpImm { op, rd, rs1, imm })))
+    Ok(Statement::Data(Data::Word(encode(&Inst::OpImm { op, rd, rs1, imm }))))
 }
 
 /// `rd, rs1, rs2`.
@@ -165,7 +165,7 @@ fn op_reg(op: RegOp, text: &[u8]) -> Result<Statement<'_>, AsmKind>
     ensures { told result ≡ model.instruction (mnemonics.Op op) text.now }
 {
     let (rd, rs1, rs2) = three_registers(text)?;
-    Ok(Statement::Word(encode(&Inst::Op { op, rd, rs1, rs2 })))
+    Ok(Statement::Data(Data::Word(encode(&Inst::Op { op, rd, rs1, rs2 }))))
 }
 
 /// `rd, rs1, imm`.
@@ -173,7 +173,7 @@ fn op_imm_w(op: ImmWOp, text: &[u8]) -> Result<Statement<'_>, AsmKind>
     ensures { told result ≡ model.instruction (mnemonics.OpImmW op) text.now }
 {
     let (rd, rs1, imm) = two_registers(imm_w_low(op), imm_w_high(op), text)?;
-    Ok(Statement::Word(encode(&Inst::OpImmW { op, rd, rs1, imm })))
+    Ok(Statement::Data(Data::Word(encode(&Inst::OpImmW { op, rd, rs1, imm }))))
 }
 
 /// `rd, rs1, rs2`.
@@ -181,7 +181,7 @@ fn op_reg_w(op: RegWOp, text: &[u8]) -> Result<Statement<'_>, AsmKind>
     ensures { told result ≡ model.instruction (mnemonics.OpW op) text.now }
 {
     let (rd, rs1, rs2) = three_registers(text)?;
-    Ok(Statement::Word(encode(&Inst::OpW { op, rd, rs1, rs2 })))
+    Ok(Statement::Data(Data::Word(encode(&Inst::OpW { op, rd, rs1, rs2 }))))
 }
 
 /// `rd, rs1, n`, where `n` is bits 31..20 of the word.
@@ -190,7 +190,7 @@ fn fence(text: &[u8]) -> Result<Statement<'_>, AsmKind>
 {
     let (rd, rs1, z) = two_registers(0, 4095, text)?;
     let n = z.unsigned_abs();
-    Ok(Statement::Word(encode(&Inst::Fence { rd, rs1, n })))
+    Ok(Statement::Data(Data::Word(encode(&Inst::Fence { rd, rs1, n }))))
 }
 
 // ---- the ranges of immediates: a shift's amount is below the width, and others have 12 bits

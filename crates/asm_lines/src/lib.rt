@@ -10,5 +10,5 @@ mod mnemonic;
 mod operand;
 
 pub use fault::AsmKind;
-pub use line::{Statement, read_statement};
+pub use line::{Data, Statement, read_statement};
 pub use mnemonic::{Directive, Mnemonic};

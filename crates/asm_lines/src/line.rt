@@ -22,13 +22,16 @@ pub enum Statement<'a> {
     Label(&'a [u8]),
     /// A segment of `size` bytes begins at the address `at`. Of the flags 4 is read, 2 write and
     /// 1 execute.
-    Segment {
-        at: u64,
-        flags: u32,
-        size: u64,
-    },
+    Segment { at: u64, flags: u32, size: u64 },
     /// The program begins at the label.
     Entry(&'a [u8]),
+    /// Bytes stand here in the segment.
+    Data(Data<'a>),
+}
+
+/// What bytes a line says. Names are those of labels, as the line spells them.
+#[derive(Clone, Copy)]
+pub enum Data<'a> {
     /// Four bytes, the lowest first: a number, or an instruction.
     Word(u32),
     Byte(u8),

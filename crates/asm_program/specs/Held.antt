@@ -2,7 +2,7 @@
 use Rattle.std.specs.Prelude.{◌≡◌, ℕ, ◌+◌, bytes_eq, List, map}
 use Rattle.std.specs.Prelude.{Option, Some, None, option_map, Result, Ok, Err}
 use Rattle.std.specs.HashMap.{get_by}
-use Rattle.asm_lines.specs.Said.{said}
+use Rattle.asm_lines.specs.Said.{said_data}
 use Rattle.asm_lines.specs.declared.fault.AsmKind.{AsmKind}
 use Rattle.asm_program.specs.Program.{Piece, Part, Entry, Program}
 use Rattle.asm_program.specs.declared.labels.Labels.{Labels}
@@ -15,7 +15,7 @@ use Rattle.asm_program.specs.declared.reading.Reading.{Reading as HeldReading}
 use Rattle.asm_program.specs.Reading.{LineFault, Reading}
 
 abbrev pub piece_of : (at : ℕ) → HeldPiece → Piece
-piece_of at p = record { line = p.line; address = at + p.offset; says = said p.says }
+piece_of at p = record { line = p.line; address = at + p.offset; says = said_data p.says }
 
 abbrev pub part_of : HeldPart → Part
 part_of p = record {

@@ -1,5 +1,5 @@
 -- What was read of a text so far, and what a line more makes of it.
-use Rattle.std.specs.Prelude.{ℕ, ◌+◌, nat_lt, Bool, ◌==◌, if◌then◌else◌, bytes_eq}
+use Rattle.std.specs.Prelude.{ℕ, ◌+◌, nat_lt, Bool, if◌then◌else◌, bytes_eq}
 use Rattle.std.specs.Prelude.{List, [], ◌∷◌, ◌++◌, Option, Some, None, is_some, option_to_list}
 use Rattle.std.specs.Prelude.{Result, Ok, Err}
 use Rattle.std.specs.Map.{update}

@@ -1,6 +1,6 @@
 -- What is read of a text: all lines up to the first that is faulty whatever the addresses of
 -- labels are.
-use Rattle.std.specs.Prelude.{ℕ, ◌+◌, List, [], ◌∷◌, Option, Some, None, Result, Ok, Err}
+use Rattle.std.specs.Prelude.{ℕ, ◌+◌, List, [], ◌∷◌, Option, Some, None, Ok, Err}
 use Rattle.asm_words.specs.Text.{lines}
 use Rattle.asm_lines.specs.declared.fault.AsmKind.{AsmKind}
 use Rattle.asm_program.specs.Program.{Part, Entry, Program, no_program, parts_of, with_line}

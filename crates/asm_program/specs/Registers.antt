@@ -1,5 +1,5 @@
 -- Registers that statements name.
-use Rattle.std.specs.Prelude.{ℕ, nat_lt, Bool, true, ◌&&◌}
+use Rattle.std.specs.Prelude.{nat_lt, Bool, true, ◌&&◌}
 use Rattle.asm_lines.specs.Statement.{Statement, Nothing, Label, Segment, Entry, Word, Byte, Zeros}
 use Rattle.asm_lines.specs.Statement.{BranchTo, JumpTo}
 

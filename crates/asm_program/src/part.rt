@@ -1,12 +1,12 @@
 //! A segment of a text.
 
 ghost use Rattle.std.specs.Prelude.{◌≡◌, ◌+◌, nat_lt, if◌then◌else◌, IfOk, []};
-ghost use Rattle.asm_lines.specs.Said.{said, IsInRange};
+ghost use Rattle.asm_lines.specs.Said.{said_data, IsInRange};
 ghost use Rattle.asm_program.specs.Held.{part_of, Makes};
 ghost use Rattle.asm_program.specs.Program.{part_if_fits};
 
 use crate::piece::{Piece, byte_count};
-use asm_lines::{AsmKind, Statement};
+use asm_lines::{AsmKind, Data};
 use std::alloc::{AllocError, Global};
 
 /// A segment, and what lines say of its bytes.
@@ -48,10 +48,10 @@ impl<'a> Part<'a> {
     /// segment would be longer than its size.
     ///
     /// The only error is that memory ran out.
-    pub fn add(&mut self, line: u32, says: Statement<'a>) -> Result<Option<AsmKind>, AllocError>
-        requires { IsInRange (said says) }
+    pub fn add(&mut self, line: u32, says: Data<'a>) -> Result<Option<AsmKind>, AllocError>
+        requires { IsInRange (said_data says) }
         ensures { IfOk result (λ fault.
-            Makes (part_if_fits (part_of self.old) line (said says.entry)) fault
+            Makes (part_if_fits (part_of self.old) line (said_data says.entry)) fault
             (part_of self.old) (part_of self.new)) }
     {
         match self.used_with(byte_count(&says)) {

@@ -1,13 +1,13 @@
 //! What was read of a text so far.
 
 ghost use Rattle.std.specs.Prelude.{◌≡◌, IfOk, OnOk, option_map, None};
-ghost use Rattle.asm_lines.specs.Said.{said, IsInRange};
+ghost use Rattle.asm_lines.specs.Said.{said, said_data, IsInRange};
 ghost use Rattle.asm_program.specs.Held.{part_of, program_of, Makes};
 ghost use Rattle.asm_program.specs.Program as model;
 
 use crate::labels::Labels;
 use crate::part::Part;
-use asm_lines::{AsmKind, Statement, read_statement};
+use asm_lines::{AsmKind, Data, Statement, read_statement};
 use std::alloc::{AllocError, Global};
 
 /// The label at which a program begins.
@@ -74,11 +74,7 @@ impl<'a> Program<'a> {
                 Ok(None)
             }
             Statement::Entry(name) => Ok(self.add_entry(line, name)),
-            Statement::Word(_) => self.add_piece(line, says),
-            Statement::Byte(_) => self.add_piece(line, says),
-            Statement::Zeros(_) => self.add_piece(line, says),
-            Statement::BranchTo { .. } => self.add_piece(line, says),
-            Statement::JumpTo { .. } => self.add_piece(line, says),
+            Statement::Data(says) => self.add_piece(line, says),
         }
     }
 
@@ -139,10 +135,10 @@ impl<'a> Program<'a> {
     }
 
     /// Adds bytes to the last segment, where there is one and they fit.
-    fn add_piece(&mut self, line: u32, says: Statement<'a>) -> Result<Option<AsmKind>, AllocError>
-        requires { IsInRange (said says) }
+    fn add_piece(&mut self, line: u32, says: Data<'a>) -> Result<Option<AsmKind>, AllocError>
+        requires { IsInRange (said_data says) }
         ensures { IfOk result (λ fault.
-            Makes (model.with_piece (program_of self.old) line (said says.entry)) fault
+            Makes (model.with_piece (program_of self.old) line (said_data says.entry)) fault
             (program_of self.old) (program_of self.new)) }
     {
         match &mut self.last {
