@@ -1,20 +1,28 @@
 -- Steps, from what was fetched and what its instruction does.
-use Rattle.std.proofs.Common.{◌≡◌, ℕ, ◌+◌, ◌<◌, ◌≤◌, ◌⊎◌, inl, inr, Bool, true, false, MatchBool}
-use Rattle.std.proofs.Common.{Some, Result, Ok, Err, refl, sym, arith}
-use Rattle.hart.specs.Step.{Writes, StepDoes, DoesNext, frames_of}
+use Rattle.std.proofs.Common.{◌≡◌, ℕ, ◌%◌, ◌==◌, Bool, true, false, MatchBool, if◌then◌else◌}
+use Rattle.std.proofs.Common.{Option, None, Some, Result, Ok, Err, length, refl, sym, ap, ◌∙◌}
+use Rattle.hart.specs.Step.{StepDoes, DoesNext, WantsFrames, Lacks}
 use Rattle.hart.specs.declared.instruction.StepEnd.{StepEnd}
 use Rattle.hart.specs.declared.instruction.StepEnd.TheVariants.{Retired, Call, Trap, NeedFrames}
 use Rattle.hart.specs.declared.instruction.StepEnd.TheVariants.{Memory}
 use Rattle.instruction_model.specs.InstructionWord.{Decodes}
+use Rattle.instruction_model.specs.Word.{add, as_word}
 use Rattle.instruction_model.specs.declared.instruction.Inst.{Inst}
 use Rattle.instruction_model.specs.declared.instruction.Inst.TheVariants.{Lui, Auipc, Jal, Jalr}
 use Rattle.instruction_model.specs.declared.instruction.Inst.TheVariants.{Branch, Load, Store}
 use Rattle.instruction_model.specs.declared.instruction.Inst.TheVariants.{OpImm, Op, OpImmW, OpW}
 use Rattle.instruction_model.specs.declared.instruction.Inst.TheVariants.{Fence, Ecall, Ebreak}
-use Rattle.machine_model.specs.Instruction.{Next, IsNext, Executes, can_fetch, word_at_pc}
-use Rattle.machine_model.specs.Instruction.{effect_of}
-use Rattle.machine_model.specs.Machine.{Machine}
+use Rattle.machine_model.specs.Instruction.{Next, Retires, Calls, Raises, IsNext, Executes}
+use Rattle.machine_model.specs.Instruction.{can_fetch, word_at_pc, next_pc, effect_of, jumps, links}
+use Rattle.machine_model.specs.Instruction.{stores, unless_failing, is_taken, load_size, store_size}
+use Rattle.machine_model.specs.Instruction.{load_page_fault, store_page_fault}
+use Rattle.machine_model.specs.Machine.{Machine, register, is_readable, is_writable, least_failing}
+use Rattle.machine_model.specs.Machine.{low_bytes, with_store, with_written}
+use Rattle.machine_model.proofs.Ranges.{length-low_bytes}
+use Rattle.machine_model.proofs.Runs.{one_next}
+use Rattle.space_api.specs.Frames.{LacksFrames}
 use Rattle.space_api.specs.declared.access.Access.{Access}
+use Rattle.space_api.proofs.Frames.{need_lacks, lacks_need, same_lacks}
 
 -- a word was fetched, so it may be
 pub may_fetch : (b : Bool) (P : Type 0) (result : Result ℕ Access) (word : ℕ) (access : Access) →
@@ -38,52 +46,135 @@ step_does (Trap cause tval) m after v h d e = next_is m v _ h d (sym e)
 step_does NeedFrames m after v h d e = tt
 step_does Memory m after v h d e = tt
 
--- an instruction takes no frames, or it is a store and takes those of its range
-abbrev IsOfStore : (need : ℕ → ℕ → ℕ) → Machine → (frames : ℕ) → Type 0
-IsOfStore need m frames =
-    (frames ≡ 0) ⊎ ((at : ℕ) × ((n : ℕ) × (Writes m at n × (frames ≡ need at n))))
+-- ---- which instructions lack frames
 
-is_of_store : (need : ℕ → ℕ → ℕ) (m : Machine) (v : Inst) → Decodes (word_at_pc m) (Some v) →
-    IsOfStore need m (frames_of need m.registers v)
-is_of_store need m (Lui rd n) d = inl refl
-is_of_store need m (Auipc rd n) d = inl refl
-is_of_store need m (Jal rd offset) d = inl refl
-is_of_store need m (Jalr rd rs1 imm) d = inl refl
-is_of_store need m (Branch op rs1 rs2 offset) d = inl refl
-is_of_store need m (Load op rd rs1 imm) d = inl refl
-is_of_store need m (Store op rs1 rs2 imm) d =
-    let writes : Writes m _ _ = record {
-      op = op;
-      rs1 = rs1;
-      rs2 = rs2;
-      imm = imm;
-      decoded = d;
-      at_is = refl;
-      size_is = refl;
-    } in
-    inr (_, (_, (writes, refl)))
-is_of_store need m (OpImm op rd rs1 imm) d = inl refl
-is_of_store need m (Op op rd rs1 rs2) d = inl refl
-is_of_store need m (OpImmW op rd rs1 imm) d = inl refl
-is_of_store need m (OpW op rd rs1 rs2) d = inl refl
-is_of_store need m (Fence rd rs1 n) d = inl refl
-is_of_store need m Ecall d = inl refl
-is_of_store need m Ebreak d = inl refl
+-- the written set after what an instruction does
+abbrev written_after : Next → (ℕ → Bool) → ℕ → Bool
+written_after (Retires after) w = after.written
+written_after Calls w = w
+written_after (Raises cause tval) w = w
 
-pub wanted : (need : ℕ → ℕ → ℕ) (spares : ℕ) (m : Machine) (v : Inst) →
-    Decodes (word_at_pc m) (Some v) → spares < frames_of need m.registers v →
-    (at : ℕ) × ((n : ℕ) × (Writes m at n × (spares < need at n)))
-wanted need spares m v d h =
-    elim (is_of_store need m v d) [
-      | inl none ↦ absurd (omega arith)
-      | inr (at, (n, (writes, e))) ↦ (at, (n, (writes, omega arith)))
-    ]
+keeps_either : (test : Bool) (a b : Next) (w : ℕ → Bool) → written_after a w ≡ w →
+    written_after b w ≡ w → written_after (if test then a else b) w ≡ w
+keeps_either true a b w h k = h
+keeps_either false a b w h k = k
 
-pub spent : (need : ℕ → ℕ → ℕ) (old new : ℕ) (m : Machine) (v : Inst) →
-    Decodes (word_at_pc m) (Some v) → old ≤ new + frames_of need m.registers v →
-    (old ≤ new) ⊎ ((at : ℕ) × ((n : ℕ) × (Writes m at n × (old ≤ new + need at n))))
-spent need old new m v d h =
-    elim (is_of_store need m v d) [
-      | inl none ↦ inl (omega arith)
-      | inr (at, (n, (writes, e))) ↦ inr (at, (n, (writes, omega arith)))
-    ]
+keeps_unless : (cause : ℕ) (failing : Option ℕ) (next : Next) (w : ℕ → Bool) →
+    written_after next w ≡ w → written_after (unless_failing cause failing next) w ≡ w
+keeps_unless cause None next w h = h
+keeps_unless cause (Some a) next w h = refl
+
+-- one that marks no page lacks none
+none_lacks : {P : Type 0} (takes : Bool) (spares : ℕ) (w : ℕ → Bool) (next : Next)
+    (after : Machine) → written_after next w ≡ w → next ≡ Retires after →
+    LacksFrames takes spares w after.written → P
+none_lacks takes spares w next after kept is lacks =
+    same_lacks takes spares w after.written (sym (ap (λ n. written_after n w) is) ∙ kept) lacks
+
+jumps_keep : (m : Machine) (target : ℕ) → written_after (jumps m target) m.written ≡ m.written
+jumps_keep m target = keeps_either (target % 4 == 0) _ _ m.written refl refl
+
+links_keep : (m : Machine) (rd target : ℕ) →
+    written_after (links m rd target) m.written ≡ m.written
+links_keep m rd target = keeps_either (target % 4 == 0) _ _ m.written refl refl
+
+-- a store that retires was allowed
+stored : (cause : ℕ) (failing : Option ℕ) (to after : Machine) →
+    unless_failing cause failing (Retires to) ≡ Retires after → (failing ≡ None) × (after ≡ to)
+stored cause None to after e = (refl, cc)
+stored cause (Some a) to after e = cc
+
+-- the written set after a store of so many bytes
+marks : (m : Machine) (at n value : ℕ) →
+    with_written at (length (low_bytes n value)) m.written ≡ with_written at n m.written
+marks m at n value = ap (λ k. with_written at k m.written) (length-low_bytes n value)
+
+pub lacks_of : (takes : Bool) (spares : ℕ) (m after : Machine) (word : ℕ) (v : Inst) →
+    effect_of m word v ≡ Retires after → LacksFrames takes spares m.written after.written →
+    Lacks takes spares m v
+lacks_of takes spares m after w (Lui rd n) e l =
+    none_lacks takes spares m.written _ after refl e l
+lacks_of takes spares m after w (Auipc rd n) e l =
+    none_lacks takes spares m.written _ after refl e l
+lacks_of takes spares m after w (Jal rd offset) e l =
+    none_lacks takes spares m.written _ after (links_keep m rd _) e l
+lacks_of takes spares m after w (Jalr rd rs1 imm) e l =
+    none_lacks takes spares m.written _ after (links_keep m rd _) e l
+lacks_of takes spares m after w (Branch op rs1 rs2 offset) e l =
+    none_lacks takes spares m.written _ after
+    (keeps_either (is_taken op (register m rs1) (register m rs2)) _ _ m.written
+    (jumps_keep m (add m.pc (as_word offset))) refl) e l
+lacks_of takes spares m after w (Load op rd rs1 imm) e l =
+    none_lacks takes spares m.written _ after
+    (keeps_unless load_page_fault
+    (least_failing (is_readable m) (add (register m rs1) (as_word imm)) (load_size op)) _ m.written
+    refl) e l
+lacks_of takes spares m after w (Store op rs1 rs2 imm) e l =
+    let at = add (register m rs1) (as_word imm) in
+    let n = store_size op in
+    let value = register m rs2 in
+    let s = stored store_page_fault (least_failing (is_writable m) at n) _ after e in
+    let same : after.written ≡ with_written at n m.written =
+    ap (λ x. x.written) s.1 ∙ marks m at n value in
+    (s.0, lacks_need takes spares m.written at n (rw same at l))
+lacks_of takes spares m after w (OpImm op rd rs1 imm) e l =
+    none_lacks takes spares m.written _ after refl e l
+lacks_of takes spares m after w (Op op rd rs1 rs2) e l =
+    none_lacks takes spares m.written _ after refl e l
+lacks_of takes spares m after w (OpImmW op rd rs1 imm) e l =
+    none_lacks takes spares m.written _ after refl e l
+lacks_of takes spares m after w (OpW op rd rs1 rs2) e l =
+    none_lacks takes spares m.written _ after refl e l
+lacks_of takes spares m after w (Fence rd rs1 n) e l =
+    none_lacks takes spares m.written _ after refl e l
+lacks_of takes spares m after w Ecall e l = cc
+lacks_of takes spares m after w Ebreak e l = cc
+
+-- a store that lacks frames would retire
+pub wants_of : (takes : Bool) (spares : ℕ) (m : Machine) (v : Inst) → can_fetch m ≡ true →
+    Decodes (word_at_pc m) (Some v) → Lacks takes spares m v → WantsFrames takes spares m
+wants_of takes spares m (Lui rd n) h d l = absurd l
+wants_of takes spares m (Auipc rd n) h d l = absurd l
+wants_of takes spares m (Jal rd offset) h d l = absurd l
+wants_of takes spares m (Jalr rd rs1 imm) h d l = absurd l
+wants_of takes spares m (Branch op rs1 rs2 offset) h d l = absurd l
+wants_of takes spares m (Load op rd rs1 imm) h d l = absurd l
+wants_of takes spares m (Store op rs1 rs2 imm) h d l =
+    let at = add (register m rs1) (as_word imm) in
+    let n = store_size op in
+    let value = register m rs2 in
+    let bytes = low_bytes n value in
+    let to : Machine = record (with_store at bytes m) { pc = next_pc m } in
+    let next : Retires to ≡ stores m op at value =
+    ap (λ o. unless_failing store_page_fault o (Retires to)) (sym l.0) in
+    record {
+      after = to;
+      retires = next_is m (Store op rs1 rs2 imm) (Retires to) h d next;
+      lacks = rw (marks m at n value) (need_lacks takes spares m.written at n l.1);
+    }
+wants_of takes spares m (OpImm op rd rs1 imm) h d l = absurd l
+wants_of takes spares m (Op op rd rs1 rs2) h d l = absurd l
+wants_of takes spares m (OpImmW op rd rs1 imm) h d l = absurd l
+wants_of takes spares m (OpW op rd rs1 rs2) h d l = absurd l
+wants_of takes spares m (Fence rd rs1 n) h d l = absurd l
+wants_of takes spares m Ecall h d l = absurd l
+wants_of takes spares m Ebreak h d l = absurd l
+
+-- and only such a store wants any
+pub of_wants : (takes : Bool) (spares : ℕ) (m : Machine) (v : Inst) → can_fetch m ≡ true →
+    Decodes (word_at_pc m) (Some v) → WantsFrames takes spares m → Lacks takes spares m v
+of_wants takes spares m v h d w =
+    let here = next_is m v (effect_of m (word_at_pc m) v) h d refl in
+    lacks_of takes spares m w.after (word_at_pc m) v
+    (one_next m (effect_of m (word_at_pc m) v) (Retires w.after) here w.retires) w.lacks
+
+raised_wants : {P : Type 0} (cause tval : ℕ) (after : Machine) →
+    Raises cause tval ≡ Retires after → P
+raised_wants cause tval after e = cc
+
+-- one that raises an exception wants none
+pub raises_wants : {P : Type 0} (takes : Bool) (spares : ℕ) (m : Machine) (cause tval : ℕ) →
+    IsNext m (Raises cause tval) → WantsFrames takes spares m → P
+raises_wants takes spares m cause tval n w =
+    raised_wants cause tval w.after
+    (one_next m (Raises cause tval) (Retires w.after) n w.retires)

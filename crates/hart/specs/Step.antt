@@ -1,29 +1,17 @@
 -- What one step of a hart over a space comes to.
-use Rattle.std.specs.Prelude.{◌≡◌, ℕ, ◌+◌, ◌<◌, ◌≤◌, ◌⊎◌, ℤ, List, slice_index, Some}
+use Rattle.std.specs.Prelude.{◌≡◌, ℕ, ◌<◌, Bool, None}
 use Rattle.hart.specs.declared.instruction.StepEnd.{StepEnd}
 use Rattle.hart.specs.declared.instruction.StepEnd.TheVariants.{Retired, Call, Trap, NeedFrames}
 use Rattle.hart.specs.declared.instruction.StepEnd.TheVariants.{Memory}
-use Rattle.instruction_model.specs.InstructionWord.{Decodes}
 use Rattle.instruction_model.specs.Word as word
 use Rattle.instruction_model.specs.declared.instruction.Inst.{Inst}
 use Rattle.instruction_model.specs.declared.instruction.Inst.TheVariants.{Lui, Auipc, Jal, Jalr}
 use Rattle.instruction_model.specs.declared.instruction.Inst.TheVariants.{Branch, Load, Store}
 use Rattle.instruction_model.specs.declared.instruction.Inst.TheVariants.{OpImm, Op, OpImmW, OpW}
 use Rattle.instruction_model.specs.declared.instruction.Inst.TheVariants.{Fence, Ecall, Ebreak}
-use Rattle.instruction_model.specs.declared.instruction.StoreOp.{StoreOp}
-use Rattle.machine_model.specs.Instruction.{Next, Retires, Calls, Raises, IsNext, word_at_pc}
-use Rattle.machine_model.specs.Instruction.{store_size}
-use Rattle.machine_model.specs.Machine.{Machine, register}
-
--- the next instruction is a store of so many bytes at this address
-pub record Writes (m : Machine) (at n : ℕ) : Type 0 where
-  pub op : StoreOp
-  pub rs1 : ℕ
-  pub rs2 : ℕ
-  pub imm : ℤ
-  pub decoded : Decodes (word_at_pc m) (Some (Store op rs1 rs2 imm))
-  pub at_is : at ≡ word.add (register m rs1) (word.as_word imm)
-  pub size_is : n ≡ store_size op
+use Rattle.machine_model.specs.Instruction.{Next, Retires, Calls, Raises, IsNext, store_size}
+use Rattle.machine_model.specs.Machine.{Machine, register, is_writable, least_failing}
+use Rattle.space_api.specs.Frames.{need, LacksFrames}
 
 -- ---- a step
 
@@ -44,14 +32,12 @@ UnlessRetired (Trap cause tval) p = p
 UnlessRetired NeedFrames p = p
 UnlessRetired Memory p = p
 
--- Frames are wanted or spent for a store alone, where a store of so many bytes at an address
--- takes so many at most.
-pub record TakesFrames (need : (at n : ℕ) → ℕ) (end : StepEnd) (old new : ℕ) (m : Machine)
-    : Type 0 where
-  -- they are wanted where there are fewer spares than the store takes
-  pub wanted : end ≡ NeedFrames → (at : ℕ) × ((n : ℕ) × (Writes m at n × (old < need at n)))
-  -- no more of the spares are spent than the store takes
-  pub spent : (old ≤ new) ⊎ ((at : ℕ) × ((n : ℕ) × (Writes m at n × (old ≤ new + need at n))))
+-- The next instruction would lead to a machine with more written pages, and that takes more frames
+-- than there are spares.
+pub record WantsFrames (takes : Bool) (spares : ℕ) (m : Machine) : Type 0 where
+  pub after : Machine
+  pub retires : IsNext m (Retires after)
+  pub lacks : LacksFrames takes spares m.written after.written
 
 -- ---- a step whose instruction is known
 
@@ -63,21 +49,22 @@ DoesNext (Trap cause tval) after next = next ≡ Raises cause tval
 DoesNext NeedFrames after next = Unit {0}
 DoesNext Memory after next = Unit {0}
 
--- how many frames the instruction takes at most, over these registers and where a store takes
--- these
-abbrev pub frames_of : (need : ℕ → ℕ → ℕ) → (registers : List ℕ) → Inst → ℕ
-frames_of need registers (Lui rd n) = 0
-frames_of need registers (Auipc rd n) = 0
-frames_of need registers (Jal rd offset) = 0
-frames_of need registers (Jalr rd rs1 imm) = 0
-frames_of need registers (Branch op rs1 rs2 offset) = 0
-frames_of need registers (Load op rd rs1 imm) = 0
-frames_of need registers (Store op rs1 rs2 imm) =
-    need (word.add (slice_index registers rs1) (word.as_word imm)) (store_size op)
-frames_of need registers (OpImm op rd rs1 imm) = 0
-frames_of need registers (Op op rd rs1 rs2) = 0
-frames_of need registers (OpImmW op rd rs1 imm) = 0
-frames_of need registers (OpW op rd rs1 rs2) = 0
-frames_of need registers (Fence rd rs1 n) = 0
-frames_of need registers Ecall = 0
-frames_of need registers Ebreak = 0
+-- the instruction stores where it may, and that needs more frames than there are spares
+abbrev pub Lacks : (takes : Bool) → (spares : ℕ) → Machine → Inst → Type 0
+Lacks takes spares m (Lui rd n) = ⊥
+Lacks takes spares m (Auipc rd n) = ⊥
+Lacks takes spares m (Jal rd offset) = ⊥
+Lacks takes spares m (Jalr rd rs1 imm) = ⊥
+Lacks takes spares m (Branch op rs1 rs2 offset) = ⊥
+Lacks takes spares m (Load op rd rs1 imm) = ⊥
+Lacks takes spares m (Store op rs1 rs2 imm) =
+    let at = word.add (register m rs1) (word.as_word imm) in
+    (least_failing (is_writable m) at (store_size op) ≡ None)
+    × (spares < need takes m.written at (store_size op))
+Lacks takes spares m (OpImm op rd rs1 imm) = ⊥
+Lacks takes spares m (Op op rd rs1 rs2) = ⊥
+Lacks takes spares m (OpImmW op rd rs1 imm) = ⊥
+Lacks takes spares m (OpW op rd rs1 rs2) = ⊥
+Lacks takes spares m (Fence rd rs1 n) = ⊥
+Lacks takes spares m Ecall = ⊥
+Lacks takes spares m Ebreak = ⊥

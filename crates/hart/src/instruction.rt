@@ -1,11 +1,13 @@
 //! One instruction: a function for each kind.
 
-ghost use Rattle.std.specs.Prelude.{◌≡◌, ◌≢◌, ℕ, ◌+◌, ◌<◌, ◌≤◌, if◌then◌else◌};
-ghost use Rattle.hart.specs.Step.{StepDoes, UnlessRetired, TakesFrames};
-ghost use Rattle.hart.specs.Step.{DoesNext, frames_of};
+ghost use Rattle.std.specs.Prelude.{◌≡◌, ◌≢◌, ℕ, ◌<◌, ◌↔◌, if◌then◌else◌, true, None};
+ghost use Rattle.hart.specs.Step.{StepDoes, UnlessRetired, WantsFrames};
+ghost use Rattle.hart.specs.Step.{DoesNext, Lacks};
 ghost use Rattle.instruction_model.specs.InstructionWord.{IsSound};
 ghost use Rattle.machine_model.specs.Instruction as model;
-ghost use Rattle.space_api.specs.Flat.{Flat, Traffic, machine_of};
+ghost use Rattle.machine_model.specs.Machine.{least_failing};
+ghost use Rattle.space_api.specs.Flat.{Flat, Traffic, machine_of, is_writable};
+ghost use Rattle.space_api.specs.Frames.{need, Spent};
 
 use crate::values::{
     imm_value, imm_w_value, immediate_word, is_taken, load_size, load_value, reg_value,
@@ -48,22 +50,26 @@ pub enum StepEnd {
 /// ran out of memory; then it can be tried again.
 #[inline]
 pub fn step<S: Space>(hart: &mut Hart, space: &mut S) -> StepEnd
+    requires { S.finished space.old ≡ true }
     ensures does { (traffic : Traffic) → StepDoes result
         (machine_of hart.old (S.flat space.old) traffic)
         (machine_of hart.new (S.flat space.new) traffic) }
     ensures kept { UnlessRetired result ((hart.new ≡ hart.old)
         × (S.flat space.new ≡ S.flat space.old) × (S.spares space.new ≡ S.spares space.old)) }
-    ensures spares { S.spares space.new ≤ S.spares space.old }
-    ensures frames { (traffic : Traffic) → TakesFrames (S.need (S.flat space.old).written) result
-        (S.spares space.old) (S.spares space.new)
+    ensures frames { (traffic : Traffic) → (result ≡ StepEnd.NeedFrames)
+        ↔ WantsFrames S.takes_frames (S.spares space.old)
         (machine_of hart.old (S.flat space.old) traffic) }
+    ensures memory { result ≡ StepEnd.Memory → S.lacks_memory ≡ true }
+    ensures spent { Spent S.takes_frames (S.spares space.old) (S.flat space.old).written
+        (S.spares space.new) (S.flat space.new).written }
+    ensures held { (S.finished space.new ≡ true) × (S.stake space.new ≡ S.stake space.old)
+        × (S.span space.new ≡ S.span space.old) }
     ensures resting { hart.new.resting ≡ hart.old.resting }
 {
     let word = match space.fetch(hart.pc) {
         Ok(word) => word,
         Err(Access::Fault { cause, addr }) => return trap(cause, addr),
-        Err(Access::NeedFrames) => unreachable!("a fetch takes no frames"),
-        Err(Access::Memory) => return StepEnd::Memory,
+        Err(Access::NeedFrames | Access::Memory) => unreachable!("a fetch takes neither"),
     };
     let Some(instruction) = decode(word) else {
         return trap(ILLEGAL_INSTRUCTION, u64::from(word));
@@ -75,18 +81,22 @@ pub fn step<S: Space>(hart: &mut Hart, space: &mut S) -> StepEnd
 /// computes where the instruction is known.
 #[inline]
 fn execute<S: Space>(hart: &mut Hart, space: &mut S, instruction: Inst) -> StepEnd
-    requires { IsSound instruction }
+    requires sound { IsSound instruction }
+    requires finished { S.finished space.old ≡ true }
     ensures does { (word : ℕ) (traffic : Traffic) →
         let old = machine_of hart.old (S.flat space.old) traffic in
         DoesNext result (machine_of hart.new (S.flat space.new) traffic)
         (model.effect_of old word instruction) }
     ensures kept { UnlessRetired result ((hart.new ≡ hart.old)
         × (S.flat space.new ≡ S.flat space.old) × (S.spares space.new ≡ S.spares space.old)) }
-    ensures frames { result ≡ StepEnd.NeedFrames →
-        S.spares space.old < frames_of (S.need (S.flat space.old).written) hart.old.x instruction }
-    ensures spares { S.spares space.new ≤ S.spares space.old }
-    ensures spent { S.spares space.old ≤ S.spares space.new
-        + frames_of (S.need (S.flat space.old).written) hart.old.x instruction }
+    ensures frames { (traffic : Traffic) → (result ≡ StepEnd.NeedFrames)
+        ↔ Lacks S.takes_frames (S.spares space.old)
+        (machine_of hart.old (S.flat space.old) traffic) instruction }
+    ensures memory { result ≡ StepEnd.Memory → S.lacks_memory ≡ true }
+    ensures spent { Spent S.takes_frames (S.spares space.old) (S.flat space.old).written
+        (S.spares space.new) (S.flat space.new).written }
+    ensures held { (S.finished space.new ≡ true) × (S.stake space.new ≡ S.stake space.old)
+        × (S.span space.new ≡ S.span space.old) }
     ensures resting { hart.new.resting ≡ hart.old.resting }
 {
     let pc = hart.pc;
@@ -181,7 +191,7 @@ fn jump(hart: &mut Hart, target: u64) -> StepEnd
         DoesNext result (machine_of hart.new flat traffic)
         (model.jumps (machine_of hart.old flat traffic) target) }
     ensures kept { UnlessRetired result (hart.new ≡ hart.old) }
-    ensures frames { result ≢ StepEnd.NeedFrames }
+    ensures frames { (result ≢ StepEnd.NeedFrames) × (result ≢ StepEnd.Memory) }
     ensures resting { hart.new.resting ≡ hart.old.resting }
 {
     if target % WORD_SIZE != 0 {
@@ -199,7 +209,7 @@ pub fn link(hart: &mut Hart, rd: u8, target: u64) -> StepEnd
         DoesNext result (machine_of hart.new flat traffic)
         (model.links (machine_of hart.old flat traffic) rd target) }
     ensures kept { UnlessRetired result (hart.new ≡ hart.old) }
-    ensures frames { result ≢ StepEnd.NeedFrames }
+    ensures frames { (result ≢ StepEnd.NeedFrames) × (result ≢ StepEnd.Memory) }
     ensures resting { hart.new.resting ≡ hart.old.resting }
 {
     let next = hart.pc.wrapping_add(WORD_SIZE);
@@ -219,7 +229,7 @@ pub fn branch(hart: &mut Hart, taken: bool, target: u64) -> StepEnd
         DoesNext result (machine_of hart.new flat traffic)
         (if taken then model.jumps old target else model.passes old) }
     ensures kept { UnlessRetired result (hart.new ≡ hart.old) }
-    ensures frames { result ≢ StepEnd.NeedFrames }
+    ensures frames { (result ≢ StepEnd.NeedFrames) × (result ≢ StepEnd.Memory) }
     ensures resting { hart.new.resting ≡ hart.old.resting }
 {
     if taken {
@@ -232,37 +242,44 @@ pub fn branch(hart: &mut Hart, taken: bool, target: u64) -> StepEnd
 /// Loads a register from memory.
 #[inline]
 fn load<S: Space>(hart: &mut Hart, space: &mut S, op: LoadOp, rd: u8, at: u64) -> StepEnd
-    requires { rd < 32 }
+    requires register { rd < 32 }
+    requires finished { S.finished space.old ≡ true }
     ensures does { (traffic : Traffic) →
         DoesNext result (machine_of hart.new (S.flat space.new) traffic)
         (model.loads (machine_of hart.old (S.flat space.old) traffic) op rd at) }
     ensures kept { UnlessRetired result (hart.new ≡ hart.old) }
-    ensures frames { result ≢ StepEnd.NeedFrames }
+    ensures frames { (result ≢ StepEnd.NeedFrames) × (result ≢ StepEnd.Memory) }
     ensures flat { S.flat space.new ≡ S.flat space.old }
     ensures spares { S.spares space.new ≡ S.spares space.old }
+    ensures held { (S.finished space.new ≡ true) × (S.stake space.new ≡ S.stake space.old)
+        × (S.span space.new ≡ S.span space.old) }
     ensures resting { hart.new.resting ≡ hart.old.resting }
 {
     match space.load(at, load_size(op)) {
         Ok(number) => write(hart, rd, load_value(op, number)),
         Err(Access::Fault { cause, addr }) => trap(cause, addr),
-        Err(Access::NeedFrames) => unreachable!("a load takes no frames"),
-        Err(Access::Memory) => StepEnd::Memory,
+        Err(Access::NeedFrames | Access::Memory) => unreachable!("a load takes neither"),
     }
 }
 
 /// Stores a word's low bytes in memory.
 #[inline]
 fn store<S: Space>(hart: &mut Hart, space: &mut S, op: StoreOp, at: u64, value: u64) -> StepEnd
+    requires { S.finished space.old ≡ true }
     ensures does { (traffic : Traffic) →
         DoesNext result (machine_of hart.new (S.flat space.new) traffic)
         (model.stores (machine_of hart.old (S.flat space.old) traffic) op at value) }
     ensures kept { UnlessRetired result ((hart.new ≡ hart.old)
         × (S.flat space.new ≡ S.flat space.old) × (S.spares space.new ≡ S.spares space.old)) }
-    ensures frames { result ≡ StepEnd.NeedFrames →
-        S.spares space.old < S.need (S.flat space.old).written at (model.store_size op) }
-    ensures spares { S.spares space.new ≤ S.spares space.old }
-    ensures spent { S.spares space.old
-        ≤ S.spares space.new + S.need (S.flat space.old).written at (model.store_size op) }
+    ensures frames { (result ≡ StepEnd.NeedFrames)
+        ↔ ((least_failing (is_writable (S.flat space.old)) at (model.store_size op) ≡ None)
+        × (S.spares space.old
+        < need S.takes_frames (S.flat space.old).written at (model.store_size op))) }
+    ensures memory { result ≡ StepEnd.Memory → S.lacks_memory ≡ true }
+    ensures spent { Spent S.takes_frames (S.spares space.old) (S.flat space.old).written
+        (S.spares space.new) (S.flat space.new).written }
+    ensures held { (S.finished space.new ≡ true) × (S.stake space.new ≡ S.stake space.old)
+        × (S.span space.new ≡ S.span space.old) }
     ensures resting { hart.new.resting ≡ hart.old.resting }
 {
     match space.store(at, store_size(op), value) {

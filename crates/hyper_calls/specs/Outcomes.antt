@@ -1,9 +1,9 @@
 -- How a hypercall ends.
-use Rattle.std.specs.Prelude.{◌≡◌, ℕ, ◌<◌, length}
+use Rattle.std.specs.Prelude.{◌≡◌, ℕ, ◌<◌, nat_le, Bool, true, ◌&&◌, List, [], ◌∷◌, length}
 use Rattle.machine_model.specs.Hypercall.{Outcome, outcome}
 use Rattle.machine_model.specs.Hypercall as model
-use Rattle.machine_model.specs.Machine.{Machine, register}
-use Rattle.hyper_calls.specs.Exchange.{first_packet}
+use Rattle.machine_model.specs.Machine.{Machine, is_writable, range_passes}
+use Rattle.space_api.specs.Frames.{need, LacksFrames}
 use Rattle.hyper_calls.specs.declared.call_end.CallEnd.{CallEnd}
 use Rattle.hyper_calls.specs.declared.call_end.CallEnd.TheVariants.{Done, Rest, Halt, BadCall}
 use Rattle.hyper_calls.specs.declared.call_end.CallEnd.TheVariants.{NeedFrames, Memory}
@@ -18,11 +18,17 @@ ComesTo (BadCall number) old new called = (called ≡ model.Unknown number) × (
 ComesTo NeedFrames old new called = new ≡ old
 ComesTo Memory old new called = new ≡ old
 
--- how many frames a net read takes at most, where a store takes so many
-abbrev pub net_need : ((at n : ℕ) → ℕ) → Machine → ℕ
-net_need need m = need (register m 10) (length (first_packet m.queue))
+-- The hypercall would lead to a machine with more written pages, and that takes more frames than
+-- there are spares.
+pub record WantsFrames (takes : Bool) (spares clock : ℕ) (m : Machine) : Type 0 where
+  pub after : Machine
+  pub done : outcome m clock ≡ model.Done after
+  pub lacks : LacksFrames takes spares m.written after.written
 
--- it is a net read, and there are fewer spares than it needs
-pub record WantsFrames (need : (at n : ℕ) → ℕ) (spares : ℕ) (m : Machine) : Type 0 where
-  pub number : register m 17 ≡ model.net_read
-  pub few : spares < net_need need m
+-- the next packet may be read to the address, and that needs more frames than there are spares
+abbrev pub LacksRead : (takes : Bool) → (spares : ℕ) → Machine → (at room : ℕ) → List (List ℕ) →
+    Type 0
+LacksRead takes spares m at room [] = ⊥
+LacksRead takes spares m at room (packet ∷ rest) =
+    ((nat_le (length packet) room && range_passes (is_writable m) at (length packet)) ≡ true)
+    × (spares < need takes m.written at (length packet))

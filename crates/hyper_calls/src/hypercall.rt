@@ -1,12 +1,12 @@
 //! The hypercalls, by which a program reaches the outside: a function for each.
 
-ghost use Rattle.std.specs.Prelude.{◌≡◌, ◌≢◌, ◌≤◌, ◌+◌, ◌<◌, ◌%◌, ◌^◌, length, slice_index};
+ghost use Rattle.std.specs.Prelude.{◌≡◌, ◌≢◌, ◌+◌, ◌%◌, ◌^◌, ◌↔◌, true, slice_index};
 ghost use Rattle.machine_model.specs.Hypercall as model;
 ghost use Rattle.machine_model.specs.Hypercall.{outcome};
 ghost use Rattle.machine_model.specs.Machine.{with_register};
 ghost use Rattle.space_api.specs.Flat.{Flat, Traffic, machine_of};
-ghost use Rattle.hyper_calls.specs.Exchange.{first_packet};
-ghost use Rattle.hyper_calls.specs.Outcomes.{ComesTo, net_need, WantsFrames};
+ghost use Rattle.space_api.specs.Frames.{Spent};
+ghost use Rattle.hyper_calls.specs.Outcomes.{ComesTo, WantsFrames, LacksRead};
 
 use crate::call_end::CallEnd;
 use crate::ports::Ports;
@@ -68,7 +68,7 @@ fn answer(hart: &mut Hart, result_code: u64)
 
 /// Waits for a packet, unless one is queued.
 fn wait(hart: &mut Hart, ports: &Ports) -> CallEnd
-    ensures frames { result ≢ CallEnd.NeedFrames }
+    ensures frames { (result ≢ CallEnd.NeedFrames) × (result ≢ CallEnd.Memory) }
     ensures resting { result ≢ CallEnd.Rest → hart.new.resting ≡ hart.old.resting }
     ensures ends { (flat : Flat) → let old = machine_of hart.old flat ports.now.traffic in
         ComesTo result old (machine_of hart.new flat ports.now.traffic)
@@ -91,13 +91,16 @@ fn write_console<S: Space>(
     at: u64,
     size: u64,
 ) -> CallEnd
+    requires { S.finished space.old ≡ true }
     ensures ends { let old = machine_of hart.old (S.flat space.old) ports.old.traffic in
         ComesTo result old (machine_of hart.new (S.flat space.new) ports.new.traffic)
         (model.console_writes old at size) }
     ensures clock { ports.new.clock ≡ ports.old.clock }
     ensures resting { hart.new.resting ≡ hart.old.resting }
-    ensures frames { result ≢ CallEnd.NeedFrames }
+    ensures frames { (result ≢ CallEnd.NeedFrames) × (result ≢ CallEnd.Memory) }
     ensures spares { S.spares space.new ≡ S.spares space.old }
+    ensures held { (S.finished space.new ≡ true) × (S.stake space.new ≡ S.stake space.old)
+        × (S.span space.new ≡ S.span space.old) }
 {
     match ports.write_console(space, at, size) {
         Reading::Done => {
@@ -108,7 +111,6 @@ fn write_console<S: Space>(
             answer(hart, INVALID);
             CallEnd::Done
         }
-        Reading::Memory => CallEnd::Memory,
     }
 }
 
@@ -120,13 +122,16 @@ fn write_packet<S: Space>(
     at: u64,
     size: u64,
 ) -> CallEnd
+    requires { S.finished space.old ≡ true }
     ensures ends { let old = machine_of hart.old (S.flat space.old) ports.old.traffic in
         ComesTo result old (machine_of hart.new (S.flat space.new) ports.new.traffic)
         (model.net_writes old at size) }
     ensures clock { ports.new.clock ≡ ports.old.clock }
     ensures resting { hart.new.resting ≡ hart.old.resting }
-    ensures frames { result ≢ CallEnd.NeedFrames }
+    ensures frames { (result ≢ CallEnd.NeedFrames) × (result ≢ CallEnd.Memory) }
     ensures spares { S.spares space.new ≡ S.spares space.old }
+    ensures held { (S.finished space.new ≡ true) × (S.stake space.new ≡ S.stake space.old)
+        × (S.span space.new ≡ S.span space.old) }
 {
     match ports.write_packet(space, at, size) {
         Reading::Done => {
@@ -137,7 +142,6 @@ fn write_packet<S: Space>(
             answer(hart, INVALID);
             CallEnd::Done
         }
-        Reading::Memory => CallEnd::Memory,
     }
 }
 
@@ -149,18 +153,21 @@ fn read_packet<S: Space>(
     at: u64,
     room: u64,
 ) -> CallEnd
+    requires { S.finished space.old ≡ true }
     ensures ends { let old = machine_of hart.old (S.flat space.old) ports.old.traffic in
         ComesTo result old (machine_of hart.new (S.flat space.new) ports.new.traffic)
         (model.net_reads old at room old.queue) }
     ensures clock { ports.new.clock ≡ ports.old.clock }
     ensures resting { hart.new.resting ≡ hart.old.resting }
-    ensures frames { result ≡ CallEnd.NeedFrames → S.spares space.old
-        < S.need (S.flat space.old).written at (length (first_packet ports.old.traffic.queue)) }
+    ensures frames { let old = machine_of hart.old (S.flat space.old) ports.old.traffic in
+        (result ≡ CallEnd.NeedFrames)
+        ↔ LacksRead S.takes_frames (S.spares space.old) old at room old.queue }
+    ensures memory { result ≡ CallEnd.Memory → S.lacks_memory ≡ true }
     ensures kept { result ≢ CallEnd.Done → S.spares space.new ≡ S.spares space.old }
-    ensures spent { (S.spares space.new ≤ S.spares space.old) × (S.spares space.old
-        ≤ S.spares space.new
-        + S.need (S.flat space.old).written at
-        (length (first_packet ports.old.traffic.queue))) }
+    ensures spent { Spent S.takes_frames (S.spares space.old) (S.flat space.old).written
+        (S.spares space.new) (S.flat space.new).written }
+    ensures held { (S.finished space.new ≡ true) × (S.stake space.new ≡ S.stake space.old)
+        × (S.span space.new ≡ S.span space.old) }
 {
     if !ports.is_queued() {
         answer(hart, AGAIN);
@@ -188,26 +195,26 @@ fn read_packet<S: Space>(
     }
 }
 
-/// Does the hypercall at which the hart stands.
-pub fn call<S: Space>(hart: &mut Hart, space: &mut S, ports: &mut Ports) -> CallEnd
+/// Does the hypercall by its number. Split off `call` for its proof, as which frames are wanted is
+/// said here of a net read alone.
+fn call_by_number<S: Space>(hart: &mut Hart, space: &mut S, ports: &mut Ports) -> CallEnd
+    requires { S.finished space.old ≡ true }
     ensures ends { let old = machine_of hart.old (S.flat space.old) ports.old.traffic in
         ComesTo result old (machine_of hart.new (S.flat space.new) ports.new.traffic)
         (outcome old ports.old.clock) }
     ensures clock { ports.new.clock ≡ ports.old.clock }
     ensures resting { result ≢ CallEnd.Rest → hart.new.resting ≡ hart.old.resting }
-
-    // Frames are wanted by a net read alone, and only where there are too few.
-    ensures frames { result ≡ CallEnd.NeedFrames → WantsFrames
-        (S.need (S.flat space.old).written) (S.spares space.old)
-        (machine_of hart.old (S.flat space.old) ports.old.traffic) }
-
-    // Spares are spent by a net read that is done, at most as many as it needs.
+    ensures frames { let old = machine_of hart.old (S.flat space.old) ports.old.traffic in
+        (result ≡ CallEnd.NeedFrames) ↔ ((slice_index hart.old.x 17 ≡ model.net_read)
+        × LacksRead S.takes_frames (S.spares space.old) old (slice_index hart.old.x 10)
+        (slice_index hart.old.x 11) old.queue) }
+    ensures memory { result ≡ CallEnd.Memory →
+        (slice_index hart.old.x 17 ≡ model.net_read) × (S.lacks_memory ≡ true) }
     ensures kept { result ≢ CallEnd.Done → S.spares space.new ≡ S.spares space.old }
-    ensures others { slice_index hart.old.x 17 ≢ model.net_read →
-        S.spares space.new ≡ S.spares space.old }
-    ensures spent { (S.spares space.new ≤ S.spares space.old) × (S.spares space.old
-        ≤ S.spares space.new + net_need (S.need (S.flat space.old).written)
-        (machine_of hart.old (S.flat space.old) ports.old.traffic)) }
+    ensures spent { Spent S.takes_frames (S.spares space.old) (S.flat space.old).written
+        (S.spares space.new) (S.flat space.new).written }
+    ensures held { (S.finished space.new ≡ true) × (S.stake space.new ≡ S.stake space.old)
+        × (S.span space.new ≡ S.span space.old) }
 {
     let first = hart.register(A0);
     let second = hart.register(A1);
@@ -226,4 +233,32 @@ pub fn call<S: Space>(hart: &mut Hart, space: &mut S, ports: &mut Ports) -> Call
         }
         number => CallEnd::BadCall(number),
     }
+}
+
+/// Does the hypercall at which the hart stands. It takes no memory of its own.
+pub fn call<S: Space>(hart: &mut Hart, space: &mut S, ports: &mut Ports) -> CallEnd
+    requires { S.finished space.old ≡ true }
+    ensures ends { let old = machine_of hart.old (S.flat space.old) ports.old.traffic in
+        ComesTo result old (machine_of hart.new (S.flat space.new) ports.new.traffic)
+        (outcome old ports.old.clock) }
+    ensures clock { ports.new.clock ≡ ports.old.clock }
+    ensures resting { result ≢ CallEnd.Rest → hart.new.resting ≡ hart.old.resting }
+
+    // Frames are wanted exactly where the hypercall would be done and takes more than there are.
+    ensures frames { (result ≡ CallEnd.NeedFrames)
+        ↔ WantsFrames S.takes_frames (S.spares space.old) ports.old.clock
+        (machine_of hart.old (S.flat space.old) ports.old.traffic) }
+
+    // Memory is wanted by a net read alone, where the space may lack it.
+    ensures memory { result ≡ CallEnd.Memory →
+        (slice_index hart.old.x 17 ≡ model.net_read) × (S.lacks_memory ≡ true) }
+
+    // Spares are spent by a hypercall that is done, at most as many as it takes frames.
+    ensures kept { result ≢ CallEnd.Done → S.spares space.new ≡ S.spares space.old }
+    ensures spent { Spent S.takes_frames (S.spares space.old) (S.flat space.old).written
+        (S.spares space.new) (S.flat space.new).written }
+    ensures held { (S.finished space.new ≡ true) × (S.stake space.new ≡ S.stake space.old)
+        × (S.span space.new ≡ S.span space.old) }
+{
+    call_by_number(hart, space, ports)
 }

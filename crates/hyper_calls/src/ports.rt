@@ -223,6 +223,7 @@ impl Ports {
     /// Writes `size` bytes of a space, from `at` on, to the console. It is refused where they are
     /// too many, or one of them isn't readable.
     pub fn write_console<S: Space>(&mut self, space: &mut S, at: u64, size: u64) -> Reading
+        requires { S.finished space.old ≡ true }
         ensures reads { let flat = S.flat space.old in let old = self.old.traffic in
             Reads result (nat_le size console_limit
             && nat_le (length old.console + size) console_limit
@@ -233,6 +234,8 @@ impl Ports {
             (self.new ≡ self.old) }
         ensures flat { S.flat space.new ≡ S.flat space.old }
         ensures spares { S.spares space.new ≡ S.spares space.old }
+        ensures held { (S.finished space.new ≡ true) × (S.stake space.new ≡ S.stake space.old)
+            × (S.span space.new ≡ S.span space.old) }
     {
         if !fits_console(size, self.shown) {
             return Reading::Refused;
@@ -244,13 +247,13 @@ impl Ports {
                 Reading::Done
             }
             Reading::Refused => Reading::Refused,
-            Reading::Memory => Reading::Memory,
         }
     }
 
     /// Writes a packet, `size` bytes of a space from `at` on. It is refused where it is too long,
     /// there are too many packets or bytes of them, or one byte isn't readable.
     pub fn write_packet<S: Space>(&mut self, space: &mut S, at: u64, size: u64) -> Reading
+        requires { S.finished space.old ≡ true }
         ensures reads { let flat = S.flat space.old in let old = self.old.traffic in
             Reads result (nat_le size packet_limit && nat_lt (length old.sent) sent_limit
             && nat_le (sum_by length old.sent + size) sent_bytes_limit
@@ -261,6 +264,8 @@ impl Ports {
             (self.new ≡ self.old) }
         ensures flat { S.flat space.new ≡ S.flat space.old }
         ensures spares { S.spares space.new ≡ S.spares space.old }
+        ensures held { (S.finished space.new ≡ true) × (S.stake space.new ≡ S.stake space.old)
+            × (S.span space.new ≡ S.span space.old) }
     {
         if !fits_net(size, self.count, self.used) {
             return Reading::Refused;
@@ -275,7 +280,6 @@ impl Ports {
                 Reading::Done
             }
             Reading::Refused => Reading::Refused,
-            Reading::Memory => Reading::Memory,
         }
     }
 }

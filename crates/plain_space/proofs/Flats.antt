@@ -21,6 +21,7 @@ use Rattle.machine_model.specs.Machine.{least_failing, range_passes, lesser, lit
 use Rattle.machine_model.proofs.Ranges.{length-bytes_at, bytes_at-more}
 use Rattle.machine_model.proofs.Ranges.{passes_from_none, passes_from_some}
 use Rattle.space_api.specs.Flat.{Flat, after_store}
+use Rattle.plain_space.specs.Outcomes.{EndsCopy}
 use Rattle.plain_space.specs.Pages.{ArePagesOf, page_with, IsPlace, IsSplit, Overlays}
 use Rattle.plain_space.specs.Pages.{permission_of, byte_in_page, is_page_written, flat_of_pages}
 use Rattle.plain_space.specs.declared.page.Page.{Page}
@@ -347,7 +348,15 @@ ends_fault T cause at o e = rw e refl
 
 pub ends_ok : {T : Type 0} (cause : ℕ) (o : Option ℕ) (v : T) → o ≡ None
     → EndsRead cause o (Ok v)
-ends_ok cause o v e = rw e tt
+ends_ok cause o v e = rw e refl
+
+pub copy_fault : (T : Type 0) (cause at : ℕ) (o : Option ℕ) → o ≡ Some at
+    → EndsCopy {T = T} cause o (Err (Fault cause at))
+copy_fault T cause at o e = rw e refl
+
+pub copy_ok : {T : Type 0} (cause : ℕ) (o : Option ℕ) (v : T) → o ≡ None
+    → EndsCopy cause o (Ok v)
+copy_ok cause o v e = rw e tt
 
 pub on_false : (b : Bool) (P Q : Type 0) → b ≡ false → Q → MatchBool b P Q
 on_false b P Q e q = rw e q

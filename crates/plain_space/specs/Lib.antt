@@ -1,4 +1,5 @@
 pub mod Copies
+pub mod Outcomes
 pub mod Pages
 pub mod PlainSpace
 pub mod Sound

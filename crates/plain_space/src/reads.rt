@@ -1,7 +1,7 @@
 //! Reads of a space: which bytes may be accessed, loads, fetches, and copies out.
 
 ghost use Rattle.std.specs.Prelude.{◌≡◌, ℕ, ◌+◌, ◌%◌, ◌^◌, ◌<◌, ◌≤◌, ◌⊎◌, length, None, Some};
-ghost use Rattle.std.specs.Prelude.{OnOk, IfOk, IsOk, IfErr, Err, MatchBool, if◌then◌else◌};
+ghost use Rattle.std.specs.Prelude.{OnOk, IfOk, IsOk, Err, MatchBool, if◌then◌else◌};
 ghost use Rattle.image_model.specs.Pages.{page_of};
 ghost use Rattle.image_model.specs.Permission.{permission_in};
 ghost use Rattle.machine_model.specs.Instruction.{instruction_page_fault, load_page_fault};
@@ -212,7 +212,7 @@ impl Pages {
         requires aligned { at % 4 ≡ 0 }
         ensures value { IfOk result (λ w. w ≡ number_at (flat_in self.now) at 4) }
         ensures ends { MatchBool (range_passes (is_executable (flat_in self.now)) at 4)
-            (IfErr result (λ access. access ≡ Access.Memory))
+            (IsOk result)
             (result ≡ Err (Access.Fault instruction_page_fault at)) }
     {
         let page = &self.list[i];
@@ -233,7 +233,7 @@ impl Pages {
         requires aligned { at % 4 ≡ 0 }
         ensures value { IfOk result (λ w. w ≡ number_at (flat_in self.now) at 4) }
         ensures ends { MatchBool (range_passes (is_executable (flat_in self.now)) at 4)
-            (IfErr result (λ access. access ≡ Access.Memory))
+            (IsOk result)
             (result ≡ Err (Access.Fault instruction_page_fault at)) }
     {
         let flags = flags_in(&self.regions, at / PAGE_SIZE);
@@ -253,7 +253,7 @@ impl Pages {
         requires aligned { at % 4 ≡ 0 }
         ensures value { IfOk result (λ w. w ≡ number_at (flat_in self.old) at 4) }
         ensures ends { MatchBool (range_passes (is_executable (flat_in self.old)) at 4)
-            (IfErr result (λ access. access ≡ Access.Memory))
+            (IsOk result)
             (result ≡ Err (Access.Fault instruction_page_fault at)) }
         ensures same { IsSame self.old self.new }
     {

@@ -7,10 +7,11 @@ ghost use Rattle.plain_space.specs.Space.{IsSound, flat_in};
 
 use crate::pages::Pages;
 use crate::start_pages::copy_pages;
-use space_api::{Access, Memory, Space, Start};
+use space_api::{Access, Held, Memory, Space, Start};
 use std::alloc::Global;
 
-/// A space over copied pages. It shares nothing, holds no spares and needs none.
+/// A space over copied pages. It shares nothing, takes no frames and holds no spares. Its stake
+/// and its span are 0, and it is finished.
 #[derive(Drop)]
 pub struct PlainSpace {
     pages: Pages,
@@ -46,17 +47,29 @@ impl PlainSpace {
     }
 }
 
+impl Held for PlainSpace {
+    ghost stake = { λ _. 0 };
+
+    ghost span = { λ _. 0 };
+}
+
 impl Space for PlainSpace {
-    ghost use Rattle.std.specs.Prelude.{◌≡◌, ◌≢◌, ℕ, ◌+◌, ◌%◌, ◌<◌, ◌≤◌, ◌⊎◌, ◌↔◌, true, List};
+    ghost use Rattle.std.specs.Prelude.{◌≡◌, ◌≢◌, ℕ, ◌+◌, ◌%◌, ◌<◌, ◌≤◌, ◌⊎◌, ◌↔◌, true, false};
+    ghost use Rattle.std.specs.Prelude.{List};
     ghost use Rattle.std.specs.Prelude.{length, None, IfOk, OnOk, OnErr, IsOk, Err, MatchBool};
     ghost use Rattle.std.specs.Prelude.{IfErr};
+    ghost use Rattle.std.proofs.Common.{rules};
     ghost use Rattle.plain_space.specs.PlainSpace.{flat};
 
     ghost flat = { flat };
 
     ghost spares = { λ _. 0 };
 
-    ghost need = { λ _ _ _. 0 };
+    ghost finished = { λ _. true };
+
+    ghost takes_frames = { false };
+
+    ghost lacks_memory = { true };
 
     #[inline]
     fn load(&mut self, at: u64, n: u8) -> Result<u64, Access> {
@@ -85,4 +98,6 @@ impl Space for PlainSpace {
     fn held(&self) -> u32 {
         0
     }
+
+    ghost spares_are_few = { λ _. Prim.search rules };
 }

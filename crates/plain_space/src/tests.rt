@@ -1,6 +1,8 @@
 //! Each call of a space once, with values worked by hand: bytes stand the lowest first, pages
 //! have 4,096 bytes, and a page fault is cause 12, 13 or 15.
 
+ghost use Rattle.std.specs.Prelude.{◌≡◌, true};
+
 use super::*;
 use image_model::{Bytes, PageBytes, Region};
 use space_api::{Access, Space, Start};
@@ -54,7 +56,10 @@ fn fault<T>(cause: u64, addr: u64) -> Result<T, Access> {
 }
 
 /// Loads, where nothing was stored yet.
-fn loads<R: Abort, S: Space>(rt: &R, space: &mut S) -> Result<(), Fail> {
+fn loads<R: Abort, S: Space>(rt: &R, space: &mut S) -> Result<(), Fail>
+    requires { S.finished space.old ≡ true }
+    ensures { S.finished space.new ≡ true }
+{
     assert_eq!(rt; space.load(0x1_0000, 1), Ok(0x07));
     assert_eq!(rt; space.load(0x1_0001, 2), Ok(0x0707));
     assert_eq!(rt; space.load(0x1_0003, 4), Ok(0x0707_0707));
@@ -67,7 +72,10 @@ fn loads<R: Abort, S: Space>(rt: &R, space: &mut S) -> Result<(), Fail> {
 }
 
 /// Stores in a page, over its end, on a page that had no bytes, and where they aren't allowed.
-fn stores<R: Abort, S: Space>(rt: &R, space: &mut S) -> Result<(), Fail> {
+fn stores<R: Abort, S: Space>(rt: &R, space: &mut S) -> Result<(), Fail>
+    requires { S.finished space.old ≡ true }
+    ensures { S.finished space.new ≡ true }
+{
     assert_eq!(rt; space.store(0x1_2100, 8, 0x8877_6655_4433_2211), Ok(()));
     assert_eq!(rt; space.load(0x1_2101, 2), Ok(0x3322));
     assert_eq!(rt; space.load(0x1_2103, 4), Ok(0x7766_5544));
@@ -80,7 +88,10 @@ fn stores<R: Abort, S: Space>(rt: &R, space: &mut S) -> Result<(), Fail> {
 }
 
 /// Fetches of bytes, of zeros, and where they aren't allowed.
-fn fetches<R: Abort, S: Space>(rt: &R, space: &mut S) -> Result<(), Fail> {
+fn fetches<R: Abort, S: Space>(rt: &R, space: &mut S) -> Result<(), Fail>
+    requires { S.finished space.old ≡ true }
+    ensures { S.finished space.new ≡ true }
+{
     assert_eq!(rt; space.fetch(0x1_0ffc), Ok(0x0707_0707));
     assert_eq!(rt; space.fetch(0x1_1000), Ok(0));
     assert_eq!(rt; space.fetch(0x1_2000), fault(12, 0x1_2000));
@@ -88,7 +99,9 @@ fn fetches<R: Abort, S: Space>(rt: &R, space: &mut S) -> Result<(), Fail> {
 }
 
 /// Copies in and out over several pages.
-fn copies<R: Abort, S: Space>(rt: &R, alloc: Global, space: &mut S) -> Result<(), Fail> {
+fn copies<R: Abort, S: Space>(rt: &R, alloc: Global, space: &mut S) -> Result<(), Fail>
+    requires { S.finished space.old ≡ true }
+{
     let nines = vec![in alloc; 9; 4609]?;
     assert_eq!(rt; space.write_from(0x1_2e00, &nines), fault(15, 0x1_4000));
     assert_eq!(rt; space.write_from(0x1_2e00, &nines[..4608]), Ok(()));

@@ -8,7 +8,7 @@ ghost use Rattle.machine_model.specs.Instruction.{store_page_fault};
 ghost use Rattle.machine_model.specs.Machine as model;
 ghost use Rattle.machine_model.specs.Machine.{address, low_bytes};
 ghost use Rattle.space_api.specs.Flat.{is_writable, after_store};
-ghost use Rattle.space_api.specs.Outcomes.{EndsRead};
+ghost use Rattle.plain_space.specs.Outcomes.{EndsCopy};
 
 use crate::pages::Pages;
 use crate::reads::{Use, part_of};
@@ -81,7 +81,7 @@ impl Pages {
         ensures sound { IsSound self.new }
         ensures stored { OnOk result (
             flat_in self.new ≡ after_store (flat_in self.old) at bytes.now) }
-        ensures ends { EndsRead store_page_fault
+        ensures ends { EndsCopy store_page_fault
             (model.least_failing (is_writable (flat_in self.old)) at (length bytes.now)) result }
         ensures empty { length bytes.now ≡ 0 → IsOk result }
         ensures kept { OnErr result (flat_in self.new ≡ flat_in self.old) }
@@ -114,7 +114,7 @@ impl Pages {
         ensures sound { IsSound self.new }
         ensures stored { OnOk result (
             flat_in self.new ≡ after_store (flat_in self.old) at (low_bytes n v)) }
-        ensures ends { EndsRead store_page_fault
+        ensures ends { EndsCopy store_page_fault
             (model.least_failing (is_writable (flat_in self.old)) at n) result }
         ensures kept { OnErr result (flat_in self.new ≡ flat_in self.old) }
     {
@@ -139,7 +139,7 @@ impl Pages {
         ensures sound { IsSound self.new }
         ensures stored { OnOk result (
             flat_in self.new ≡ after_store (flat_in self.old) at (low_bytes n v)) }
-        ensures ends { EndsRead store_page_fault
+        ensures ends { EndsCopy store_page_fault
             (model.least_failing (is_writable (flat_in self.old)) at n) result }
         ensures kept { OnErr result (flat_in self.new ≡ flat_in self.old) }
     {
@@ -155,7 +155,7 @@ impl Pages {
         ensures sound { IsSound self.new }
         ensures stored { OnOk result (
             flat_in self.new ≡ after_store (flat_in self.old) at (low_bytes n v)) }
-        ensures ends { EndsRead store_page_fault
+        ensures ends { EndsCopy store_page_fault
             (model.least_failing (is_writable (flat_in self.old)) at n) result }
         ensures kept { OnErr result (flat_in self.new ≡ flat_in self.old) }
     {

@@ -4,10 +4,14 @@
 
 mod access;
 mod first;
+mod frame_laws;
+mod held;
 mod space;
 
 pub use access::Access;
 pub use first::first_hart;
+pub use frame_laws::{frames_rise, need_is_of_frames, parts_spend_together};
+pub use held::Held;
 pub use image_model::{PAGE_SIZE, PageBytes, Region, Start};
 pub use machine_model::{Hart, Memory, Packet};
 pub use space::Space;

@@ -84,22 +84,3 @@ returns-in-Refused-clause-reads g c =
       rw (few, short) (may ∙ passes),
       ap (with_sent was) (ap (pieces sizes) whole ∙ kept) ∙ c.self.view_is,
     )
-
-pub returns-in-Memory-clause-reads : goal.returns-in-Memory-clause-reads
-returns-in-Memory-clause-reads g c =
-    let p = c.self.inside in
-    let sizes = take p.count p.sizes in
-    let after = c.read_part.new.bytes in
-    let front : take p.used after ≡ take p.used p.bytes.items = search rules in
-    let kept : pieces sizes after ≡ pieces sizes p.bytes.items =
-    pieces-kept sizes after p.bytes.items (rw c.self.invariant.used_is front) in
-    let was : Exchange = record {
-      clock = p.clock;
-      traffic = record {
-        queue = drop p.read p.given.items;
-        sent = pieces (take p.count p.sizes) p.bytes.items;
-        console = take p.shown p.text.items;
-      };
-    } in
-    let whole = with_items_is p.bytes after (omega arith) in
-    ap (with_sent was) (ap (pieces sizes) whole ∙ kept) ∙ c.self.view_is

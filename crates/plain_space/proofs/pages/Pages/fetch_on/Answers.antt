@@ -37,4 +37,4 @@ returns-clause-ends c =
     c.index-page.ensures in
     on_true _ _ _ (passes_on_page (λ p. p.executable) c.args.self.now.regions.items c.args.at 4
     true (omega arith) (lit< tt) (omega (arith, c.requires.aligned))
-    (ap (λ p. p.executable) allowed ∙ c.if-not-page.false)) tt
+    (ap (λ p. p.executable) allowed ∙ c.if-not-page.false)) refl

@@ -21,4 +21,4 @@ returns-clause-ends c =
     let allowed = sym (rw c.deref.ensures.value at c.flags_in-flags.ensures) in
     on_true _ _ _ (passes_on_page (λ p. p.executable) c.args.self.now.regions.items c.args.at 4
     true (omega arith) (lit< tt) (omega (arith, c.requires.aligned))
-    (ap (λ p. p.executable) allowed ∙ not-false _ c.if-not-flags.false)) tt
+    (ap (λ p. p.executable) allowed ∙ not-false _ c.if-not-flags.false)) refl
