@@ -159,47 +159,47 @@ waits : (s : State) (i : ℕ) → legal.is_waiting s i ≡ true → Waits s.requ
 unfolding legal.is_waiting
 waits s i h = waits_at s.requests i (numbered s.requests i) refl h
 
-service_set : (i : ℕ) (h : How) (c : ℕ) (rs : List RequestState) (r : RequestState) →
-    numbered rs i ≡ Some r → given_of (with_service i h c rs) i ≡ Some c
+service_set : (i : ℕ) (h : How) (c u : ℕ) (rs : List RequestState) (r : RequestState) →
+    numbered rs i ≡ Some r → given_of (with_service i h c u rs) i ≡ Some c
 unfolding with_service
-service_set i h c rs r e = set_some given_one
-    (λ (r : RequestState). record r { how = h; context = Some c }) (Some c) i rs r
+service_set i h c u rs r e = set_some given_one
+    (λ (r : RequestState). record r { how = h; context = Some c; used = u }) (Some c) i rs r
     (numbered rs i) (λ x. refl) refl e
 
-service_other : (i : ℕ) (h : How) (c j : ℕ) (rs : List RequestState) → j ≢ i →
-    given_of (with_service i h c rs) j ≡ given_of rs j
+service_other : (i : ℕ) (h : How) (c u j : ℕ) (rs : List RequestState) → j ≢ i →
+    given_of (with_service i h c u rs) j ≡ given_of rs j
 unfolding with_service
-service_other i h c j rs n = look_other given_one
-    (λ (r : RequestState). record r { how = h; context = Some c }) i j rs n
+service_other i h c u j rs n = look_other given_one
+    (λ (r : RequestState). record r { how = h; context = Some c; used = u }) i j rs n
 
 -- what was given stays, where a waiting request is given a context
-given_after : (rs : List RequestState) (i : ℕ) (h : How) (c m j : ℕ) → Waits rs i →
-    (given_of rs j ≡ Some m) ⊎ ((m ≡ c) × (j ≡ i)) → given_of (with_service i h c rs) j ≡ Some m
-given_after rs i h c m j w k = elim k [
+given_after : (rs : List RequestState) (i : ℕ) (h : How) (c u m j : ℕ) → Waits rs i →
+    (given_of rs j ≡ Some m) ⊎ ((m ≡ c) × (j ≡ i)) → given_of (with_service i h c u rs) j ≡ Some m
+given_after rs i h c u m j w k = elim k [
   | inl g ↦ elim (decide j i) [
     | inl e ↦ (let P : ℕ → Type 0 = λ n. given_of rs n ≡ Some m in
         absurd (none-some m (sym w.without_context ∙ subst P e g)))
-    | inr n ↦ service_other i h c j rs n ∙ g
+    | inr n ↦ service_other i h c u j rs n ∙ g
   ]
-  | inr p ↦ (let P : ℕ → Type 0 = λ n. given_of (with_service i h c rs) n ≡ Some c in
-      subst P (sym p.1) (service_set i h c rs w.one w.started) ∙ ap Some (sym p.0))
+  | inr p ↦ (let P : ℕ → Type 0 = λ n. given_of (with_service i h c u rs) n ≡ Some c in
+      subst P (sym p.1) (service_set i h c u rs w.one w.started) ∙ ap Some (sym p.0))
 ]
 
 serves_is : (i j : ℕ) → Serves i ≡ Serves j → i ≡ j
 serves_is i j h = cc
 
-given_taken : (xs : List ContextState) (rs : List RequestState) (i : ℕ) (h : How) (c : ℕ) →
-    Waits rs i → AreGiven xs rs → AreGiven (with_duty c (Serves i) xs) (with_service i h c rs)
-given_taken xs rs i h c w g m j k = given_after rs i h c m j w (elim (decide m c) [
+given_taken : (xs : List ContextState) (rs : List RequestState) (i : ℕ) (h : How) (c u : ℕ) →
+    Waits rs i → AreGiven xs rs → AreGiven (with_duty c (Serves i) xs) (with_service i h c u rs)
+given_taken xs rs i h c u w g m j k = given_after rs i h c u m j w (elim (decide m c) [
   | inl e ↦ (let P : ℕ → Type 0 = λ n. duty_of (with_duty c (Serves i) xs) n ≡ Some (Serves j) in
       inr (e, serves_is j i (duty_only c (Serves i) (Serves j) xs (subst P e k))))
   | inr n ↦ inl (g m j (sym (duty_other c m (Serves i) xs n) ∙ k))
 ])
 
 given_deployed : (xs : List ContextState) (x : ContextState) (rs : List RequestState) (i : ℕ)
-    (h : How) (c : ℕ) → c ≡ length xs + 1 → x.duty ≡ Serves i → Waits rs i → AreGiven xs rs →
-    AreGiven (xs ++ x ∷ []) (with_service i h c rs)
-given_deployed xs x rs i h c n d w g m j k = given_after rs i h c m j w
+    (h : How) (c u : ℕ) → c ≡ length xs + 1 → x.duty ≡ Serves i → Waits rs i → AreGiven xs rs →
+    AreGiven (xs ++ x ∷ []) (with_service i h c u rs)
+given_deployed xs x rs i h c u n d w g m j k = given_after rs i h c u m j w
     (elim (look_pushed duty_one xs m x (Serves j) k) [
       | inl o ↦ inl (g m j o)
       | inr p ↦ inr (p.0 ∙ sym n, serves_is j i (sym (same_Some x.duty (Serves j) p.1) ∙ d))
@@ -367,7 +367,7 @@ sound_take sizes s c i m k = record {
   kept_room = k.kept_room;
   idle = idle_stay s.contexts (without c s.idle) c (Serves i)
       (λ n h. k.idle n (without_less c n s.idle h)) (without_gone c s.idle k.idle_distinct);
-  given = given_taken s.contexts s.requests i how.Hot c
+  given = given_taken s.contexts s.requests i how.Hot c (legal.answered_by s c)
       (waits s i (and_second _ _ (and_first _ _ m))) k.given;
   owed = nothing sizes _ _ _ s.owed (and_first _ _ (and_first _ _ m));
 }
@@ -406,7 +406,7 @@ sound_deploy sizes s c k i n m z =
       kept_distinct = f.0;
       kept_room = f.1;
       idle = λ j h. look_push duty_one s.contexts j _ Idle (z.idle j h);
-      given = given_deployed s.contexts _ s.requests i _ c next refl
+      given = given_deployed s.contexts _ s.requests i _ c 0 next refl
           (waits s i (and_second _ _ w)) z.given;
       owed = nothing sizes _ _ _ s.owed (and_first _ _ w);
     }
@@ -448,11 +448,12 @@ unfolding with_used
 used_duty c n m xs =
     look_kept duty_one (λ (x : ContextState). record x { used = n }) c m xs (λ x. refl)
 
-standing_given : (i : ℕ) (t : Standing) (j : ℕ) (rs : List RequestState) →
-    given_of (with_standing i t rs) j ≡ given_of rs j
+standing_given : (i : ℕ) (t : Standing) (p : Option ℕ) (j : ℕ) (rs : List RequestState) →
+    given_of (with_standing i t p rs) j ≡ given_of rs j
 unfolding with_standing
-standing_given i t j rs =
-    look_kept given_one (λ (r : RequestState). record r { standing = t }) i j rs (λ r. refl)
+standing_given i t p j rs =
+    look_kept given_one (λ (r : RequestState). record r { standing = t; place = p }) i j rs
+    (λ r. refl)
 
 sound_built : (sizes : Extents) (s : State) (c k : ℕ) → Sound sizes s →
     Sound sizes (legal.after_built sizes s c k)
@@ -584,7 +585,7 @@ sound_standing sizes s i t z = record {
   kept_distinct = z.kept_distinct;
   kept_room = z.kept_room;
   idle = z.idle;
-  given = λ c j h. standing_given i t j s.requests ∙ z.given c j h;
+  given = λ c j h. standing_given i t _ j s.requests ∙ z.given c j h;
   owed = z.owed;
 }
 
@@ -600,7 +601,7 @@ sound_answer sizes s i c u m z =
       kept_distinct = z.kept_distinct;
       kept_room = z.kept_room;
       idle = λ n h. used_duty c (u + 1) n s.contexts ∙ z.idle n h;
-      given = λ n j h. standing_given i Answered j s.requests
+      given = λ n j h. standing_given i Answered _ j s.requests
           ∙ z.given n j (sym (used_duty c (u + 1) n s.contexts) ∙ h);
       owed = answer_can sizes s.idle s.kept xs c (nat_le 1 sizes.idle && nat_lt (u + 1) sizes.uses)
           (is_full sizes.idle s.idle) (i, used_duty c (u + 1) c s.contexts ∙ d)

@@ -2,7 +2,7 @@
 -- which it may stand, and an effect `after_..`, the state after it.
 use Rattle.std.specs.Prelude.{◌≡◌, ℕ, ◌+◌, ◌-◌, Bool, true, false, ◌&&◌, ◌||◌, ◌==◌}
 use Rattle.std.specs.Prelude.{if◌then◌else◌, List, [], ◌∷◌, ◌++◌, length, Option, None, Some}
-use Rattle.std.specs.Prelude.{nat_le, nat_lt, min, is_none, count_by, slice_set}
+use Rattle.std.specs.Prelude.{nat_le, nat_lt, min, is_none, count_by, slice_set, All}
 use Rattle.std.specs.List.{find}
 use Rattle.journal_model.specs.Extents.{Extents}
 use Rattle.journal_model.specs.State.{State, numbered, is_just, contains, without, last_of}
@@ -105,6 +105,12 @@ serves_one i (Some x) = is_duty i x.duty
 unfoldable pub serves : State → (c i : ℕ) → Bool
 serves s c i = serves_one i (numbered s.contexts c)
 
+-- it serves a request
+abbrev pub is_busy_duty : Duty → Bool
+is_busy_duty Idle = false
+is_busy_duty (Serves i) = true
+is_busy_duty Over = false
+
 abbrev pub served_by_duty : Duty → ℕ
 served_by_duty Idle = 0
 served_by_duty (Serves i) = i
@@ -133,6 +139,35 @@ above_one sizes (Some x) = layer_above x.layer (stack_of sizes x.function)
 -- the layer directly above the place where context c stands
 unfoldable pub above : Extents → State → (c : ℕ) → Option ℕ
 above sizes s c = above_one sizes (numbered s.contexts c)
+
+abbrev pub place_of_one : Option ContextState → Option ℕ
+place_of_one None = None
+place_of_one (Some x) = x.layer
+
+-- where context c stands: the layer, and none at the image
+unfoldable pub place_of : State → (c : ℕ) → Option ℕ
+place_of s c = place_of_one (numbered s.contexts c)
+
+abbrev pub answered_by_one : Option ContextState → ℕ
+answered_by_one None = 0
+answered_by_one (Some x) = x.used
+
+-- how many requests context c answered
+unfoldable pub answered_by : State → (c : ℕ) → ℕ
+answered_by s c = answered_by_one (numbered s.contexts c)
+
+abbrev pub given_to_one : Option RequestState → Option ℕ
+given_to_one None = None
+given_to_one (Some r) = r.context
+
+-- the context that request i was given
+unfoldable pub given_to : State → (i : ℕ) → Option ℕ
+given_to s i = given_to_one (numbered s.requests i)
+
+-- where a context stands, if there is one
+abbrev pub place_of_given : State → Option ℕ → Option ℕ
+place_of_given s None = None
+place_of_given s (Some c) = place_of s c
 
 -- # What is owed
 
@@ -264,15 +299,16 @@ with_layer c k xs =
 unfoldable pub with_used : (c n : ℕ) → List ContextState → List ContextState
 with_used c n xs = with_change (λ (x : ContextState). record x { used = n }) c xs (numbered xs c)
 
--- request i stands otherwise
-unfoldable pub with_standing : (i : ℕ) → Standing → List RequestState → List RequestState
-with_standing i t xs =
-    with_change (λ (r : RequestState). record r { standing = t }) i xs (numbered xs i)
+-- request i stands otherwise, and its context stood at this place then
+unfoldable pub with_standing : (i : ℕ) → Standing → (place : Option ℕ) → List RequestState
+    → List RequestState
+with_standing i t place xs = with_change
+    (λ (r : RequestState). record r { standing = t; place = place }) i xs (numbered xs i)
 
--- request i was given context c
-unfoldable pub with_service : (i : ℕ) → How → (c : ℕ) → List RequestState → List RequestState
-with_service i h c xs =
-    with_change (λ (r : RequestState). record r { how = h; context = Some c }) i xs (numbered xs i)
+-- request i was given context c, which had answered u requests
+unfoldable pub with_service : (i : ℕ) → How → (c u : ℕ) → List RequestState → List RequestState
+with_service i h c u xs = with_change
+    (λ (r : RequestState). record r { how = h; context = Some c; used = u }) i xs (numbered xs i)
 
 -- the layer of a deploy goes to the front
 abbrev pub to_front : Option ℕ → List ℕ → List ℕ
@@ -299,6 +335,8 @@ after_start s f t = record s {
     standing = Open;
     how = how.None;
     context = None;
+    used = 0;
+    place = None;
   } ∷ [];
 }
 
@@ -310,7 +348,7 @@ may_take s c i = owes_nothing s.owed && is_waiting s i
 unfoldable pub after_take : State → (c i : ℕ) → State
 after_take s c i = record s {
   idle = without c s.idle;
-  requests = with_service i how.Hot c s.requests;
+  requests = with_service i how.Hot c (answered_by s c) s.requests;
   contexts = with_duty c (Serves i) s.contexts;
 }
 
@@ -337,7 +375,8 @@ deployed_how stack (Some k) = if is_just (last_of stack) k then how.Warm else ho
 unfoldable pub after_deploy : Extents → State → (c : ℕ) → (k : Option ℕ) → (i n : ℕ) → State
 after_deploy sizes s c k i n = record s {
   kept = to_front k s.kept;
-  requests = with_service i (deployed_how (stack_of sizes (request_function s i)) k) c s.requests;
+  requests = with_service i (deployed_how (stack_of sizes (request_function s i)) k) c 0
+      s.requests;
   contexts = s.contexts ++ record {
     function = request_function s i;
     layer = k;
@@ -409,7 +448,7 @@ may_answer s i c u = owes_nothing s.owed && is_open s i && serves s c i && has_a
 
 unfoldable pub after_answer : Extents → State → (i c u : ℕ) → State
 after_answer sizes s i c u = record s {
-  requests = with_standing i Answered s.requests;
+  requests = with_standing i Answered (place_of s c) s.requests;
   contexts = with_used c (u + 1) s.contexts;
   owed = owed_after_answer sizes s.idle c u;
 }
@@ -448,7 +487,8 @@ may_want s i = owes_nothing s.owed && is_open s i
 
 -- a request stands otherwise, and nothing else changes
 unfoldable pub after_standing : State → (i : ℕ) → Standing → State
-after_standing s i t = record s { requests = with_standing i t s.requests }
+after_standing s i t =
+    record s { requests = with_standing i t (place_of_given s (given_to s i)) s.requests }
 
 abbrev pub step_if : Bool → State → Option State
 step_if may next = if may then Some next else None
@@ -542,18 +582,7 @@ judged_from sizes s at (e ∷ es) =
 abbrev pub judged : Extents → List Event → Judged
 judged sizes events = judged_from sizes (at_first sizes) 0 events
 
-abbrev pub is_done_request : RequestState → Bool
-is_done_request r = if is_open_standing r.standing then false else true
-
-abbrev pub is_free_context : ContextState → Bool
-is_free_context x = is_free_duty x.duty where
-  is_free_duty : Duty → Bool
-  is_free_duty Idle = true
-  is_free_duty (Serves i) = false
-  is_free_duty Over = true
-
 -- each started request was answered, refused or wanted, and no context serves anybody
 pub record IsWhole (s : State) : Type 0 where
-  pub requests : count_by (λ (r : RequestState). is_open_standing r.standing) s.requests ≡ 0
-  pub contexts : count_by (λ (x : ContextState). if is_free_context x then false else true)
-      s.contexts ≡ 0
+  pub requests : All (λ (r : RequestState). is_open_standing r.standing ≡ false) s.requests
+  pub contexts : All (λ (x : ContextState). is_busy_duty x.duty ≡ false) s.contexts

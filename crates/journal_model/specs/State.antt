@@ -18,6 +18,11 @@ pub record State : Type 0 where
   pub free : ℕ
   pub owed : Owed
 
+-- a journal's sizes, and the state to which its events lead
+pub record Replay : Type 0 where
+  pub sizes : Extents
+  pub state : State
+
 -- the n-th of a list, counted from 1
 unfoldable pub numbered : {A : Type 0} → List A → ℕ → Option A
 numbered xs n = if n == 0 then None else slice_get xs (n - 1)

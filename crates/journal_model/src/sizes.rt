@@ -1,5 +1,9 @@
 //! The sizes by which a journal is judged.
 
+ghost use Rattle.std.specs.Prelude.{◌≡◌, IfOk};
+
+use machine_model::Memory;
+use std::alloc::Global;
 use std::marker::Model;
 
 /// A function's image and its layers, from the lowest up.
@@ -20,7 +24,7 @@ impl Model for FunctionStack {
 }
 
 impl FunctionStack {
-    ghost use Rattle.std.specs.Prelude.{◌≡◌};
+    ghost use Rattle.std.specs.Prelude.{◌≡◌, IfOk};
 
     /// The layers, from the lowest up.
     pub fn layers(&self) -> &[u16]
@@ -28,6 +32,32 @@ impl FunctionStack {
     {
         &self.layers
     }
+
+    /// An equal one. `Memory` where there is too little of it.
+    pub fn copy(&self, alloc: Global) -> Result<FunctionStack, Memory>
+        ensures { IfOk result (λ copy. copy ≡ self.now) }
+    {
+        match self.layers.to_vec(alloc) {
+            Ok(layers) => Ok(FunctionStack {
+                start: self.start,
+                layers,
+            }),
+            Err(_) => Err(Memory),
+        }
+    }
+}
+
+/// Equal stacks, in the same order. `Memory` where there is too little of it.
+fn copied(alloc: Global, stacks: &[FunctionStack]) -> Result<Vec<FunctionStack>, Memory>
+    ensures { IfOk result (λ copy. copy.items ≡ stacks.now) }
+{
+    let mut copy = Vec::new(alloc);
+    for stack in stacks {
+        if copy.push(stack.copy(alloc)?).is_err() {
+            return Err(Memory);
+        }
+    }
+    Ok(copy)
 }
 
 /// What bounds a journal: rooms, limits and the functions.
@@ -66,4 +96,25 @@ impl Model for Sizes {
       clock = s.clock;
       stacks = s.stacks.items;
     } };
+}
+
+impl Sizes {
+    ghost use Rattle.std.specs.Prelude.{◌≡◌, IfOk};
+
+    /// Equal sizes. `Memory` where there is too little of it.
+    pub fn copy(&self, alloc: Global) -> Result<Sizes, Memory>
+        ensures { IfOk result (λ copy. copy ≡ self.now) }
+    {
+        let stacks = copied(alloc, &self.stacks)?;
+        Ok(Sizes {
+            frames: self.frames,
+            root: self.root,
+            idle: self.idle,
+            layers: self.layers,
+            uses: self.uses,
+            requests: self.requests,
+            clock: self.clock,
+            stacks,
+        })
+    }
 }

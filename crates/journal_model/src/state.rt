@@ -24,6 +24,11 @@ pub struct RequestState {
     pub how: How,
     /// The context that it was given, by its number.
     pub context: Option<u32>,
+    /// How many requests that context had answered when it was given; 0 where it has none.
+    pub used: u64,
+    /// Where its context stood when the request was answered, refused or wanted: the layer, and
+    /// none at the image. None as long as it is open, and where it has no context.
+    pub place: Option<u16>,
 }
 
 /// What a context is there for.

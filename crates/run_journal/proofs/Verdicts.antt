@@ -65,4 +65,4 @@ stepped false old new next e h = absurd (cc)
 pub stuck : (b : Bool) (old new : State) (next : Option State) → b ≡ false →
     Steps (Ok b) old new next → next ≡ None
 stuck true old new next e h = absurd (cc)
-stuck false old new next e h = h
+stuck false old new next e h = h.0

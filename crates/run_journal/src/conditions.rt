@@ -4,7 +4,7 @@ ghost use Rattle.std.specs.Prelude.{◌≡◌, ◌+◌, ◌^◌, ◌<◌, true, 
 ghost use Rattle.journal_model.specs.Legal as legal;
 ghost use Rattle.journal_model.specs.State as model;
 
-use crate::journal::Journal;
+use crate::current::Current;
 use crate::numbered::numbered;
 use crate::owing::owes_nothing;
 use crate::stacks::{layer_above, stack_of};
@@ -38,7 +38,7 @@ fn first_for(function: u16, contexts: &[ContextState], numbers: &[u32]) -> Optio
 }
 
 /// Whether a request that stands so is open.
-fn is_open_standing(standing: Standing) -> bool
+pub fn is_open_standing(standing: Standing) -> bool
     ensures { result ≡ legal.is_open_standing standing }
 {
     match standing {
@@ -57,7 +57,7 @@ fn is_failed_standing(standing: Standing) -> bool
     }
 }
 
-impl Journal {
+impl Current {
     /// Whether any event may follow.
     pub fn owes_nothing(&self) -> bool
         ensures { result ≡ legal.owes_nothing self.now.owed }
@@ -143,6 +143,49 @@ impl Journal {
                 Duty::Serves { i } => i,
                 Duty::Idle | Duty::Over => 0,
             },
+        }
+    }
+
+    /// Where context `c` stands: the layer, and none at the image.
+    #[tactic(auto, unfolding(journal_model::specs::Legal::place_of))]
+    pub fn place_of(&self, c: u32) -> Option<u16>
+        ensures { result ≡ legal.place_of self.now c }
+    {
+        match self.context(c) {
+            None => None,
+            Some(context) => context.layer,
+        }
+    }
+
+    /// How many requests context `c` answered; 0 where it wasn't drawn.
+    #[tactic(auto, unfolding(journal_model::specs::Legal::answered_by))]
+    pub fn answered_by(&self, c: u32) -> u64
+        ensures { result ≡ legal.answered_by self.now c }
+    {
+        match self.context(c) {
+            None => 0,
+            Some(context) => context.used,
+        }
+    }
+
+    /// The context that request `i` was given.
+    #[tactic(auto, unfolding(journal_model::specs::Legal::given_to))]
+    pub fn given_to(&self, i: u32) -> Option<u32>
+        ensures { result ≡ legal.given_to self.now i }
+    {
+        match self.request(i) {
+            None => None,
+            Some(request) => request.context,
+        }
+    }
+
+    /// Where a context stands, if there is one.
+    pub fn place_of_given(&self, context: Option<u32>) -> Option<u16>
+        ensures { result ≡ legal.place_of_given self.now context }
+    {
+        match context {
+            None => None,
+            Some(c) => self.place_of(c),
         }
     }
 

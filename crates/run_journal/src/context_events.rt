@@ -1,13 +1,14 @@
 //! Events of contexts: they are taken, deployed, refilled, evicted, parked and ended.
 
 ghost use Rattle.std.specs.Prelude.{◌≡◌, ◌-◌, ◌≤◌, ◌==◌, ◌&&◌, true, length, Some, OnOk};
+ghost use Rattle.std.specs.Prelude.{◌++◌, ◌∷◌, [], OnErr};
 ghost use Rattle.journal_model.specs.Legal as legal;
 ghost use Rattle.journal_model.specs.State as model;
 ghost use Rattle.journal_model.specs.declared.event.Event.TheVariants.{Take, Deploy, Refill};
 ghost use Rattle.journal_model.specs.declared.event.Event.TheVariants.{Evict, Park, End};
 ghost use Rattle.run_journal.specs.Steps.{Steps};
 
-use crate::journal::Journal;
+use crate::current::Current;
 use crate::owing::{owed_after_evict, owes_end, owes_evict, owes_park};
 use crate::stacks::{deployed_how, highest_kept, same_place, stack_of};
 use journal_model::{ContextState, Duty, How, Owed, Sizes};
@@ -26,7 +27,7 @@ fn is_just(option: Option<u32>, number: u32) -> bool
     }
 }
 
-impl Journal {
+impl Current {
     /// Whether the idle context `c` may serve request `i`.
     #[tactic(auto, unfolding(journal_model::specs::Legal::may_take))]
     fn may_take(&self, c: u32, i: u32) -> bool
@@ -43,8 +44,9 @@ impl Journal {
         if !self.may_take(c, i) {
             return false;
         }
+        let used = self.answered_by(c);
         self.remove_idle(c);
-        self.set_service(i, How::Hot, c);
+        self.set_service(i, How::Hot, c, used);
         self.set_duty(c, Duty::Serves { i });
         true
     }
@@ -74,19 +76,35 @@ impl Journal {
             && n <= self.free()
     }
 
-    /// The layer of a deploy goes to the front.
-    fn bring_to_front(&mut self, k: Option<u16>) -> Result<(), Memory>
-        ensures { OnOk result (self.new ≡ record self.old {
+    /// The layer of a deploy, if there is one, goes to the front. Where memory ran out, all is as
+    /// before.
+    fn use_layer(&mut self, k: Option<u16>) -> Result<(), Memory>
+        ensures used { OnOk result (self.new ≡ record self.old {
           kept = legal.to_front k self.old.kept;
         }) }
+        ensures memory { OnErr result (self.new ≡ self.old) }
     {
         match k {
             None => Ok(()),
-            Some(k) => {
-                self.remove_kept(k);
-                self.put_kept(k)
-            }
+            Some(k) => self.bring_to_front(k),
         }
+    }
+
+    /// Adds a context that was deployed from a layer or the image. Where memory ran out, all is as
+    /// before.
+    fn add_deployed(&mut self, context: ContextState, k: Option<u16>) -> Result<(), Memory>
+        ensures added { OnOk result (self.new ≡ record self.old {
+          kept = legal.to_front k self.old.kept;
+          contexts = self.old.contexts ++ context ∷ [];
+        }) }
+        ensures memory { OnErr result (self.new ≡ self.old) }
+    {
+        self.add_context(context)?;
+        if self.use_layer(k).is_err() {
+            self.remove_context();
+            return Err(Memory);
+        }
+        Ok(())
     }
 
     /// `deploy c k i n`.
@@ -108,14 +126,14 @@ impl Journal {
         let function = self.request_function(i);
         let how = deployed_how(stack_of(sizes, function), k);
         let free = self.free() - n;
-        self.bring_to_front(k)?;
-        self.set_service(i, how, c);
-        self.add_context(ContextState {
+        let context = ContextState {
             function,
             layer: k,
             used: 0,
             duty: Duty::Serves { i },
-        })?;
+        };
+        self.add_deployed(context, k)?;
+        self.set_service(i, how, c, 0);
         self.set_free(free);
         Ok(true)
     }

@@ -1,297 +1,127 @@
-//! The state of a journal, and how its parts are read and changed.
+//! A journal that is read event by event.
 
-ghost use Rattle.std.specs.Prelude.{◌≡◌, ℕ, ◌+◌, ◌^◌, ◌<◌, ◌∷◌, ◌++◌, [], length, OnOk, true};
-ghost use Rattle.std.specs.Prelude.{◌==◌};
+ghost use Rattle.std.specs.Prelude.{◌≡◌, ◌↔◌, ◌<◌, ◌^◌, length, true};
 ghost use Rattle.journal_model.specs.Legal as legal;
 ghost use Rattle.journal_model.specs.State as model;
-ghost use Rattle.journal_model.specs.declared.state.Owed.TheVariants.{Nothing};
+ghost use Rattle.run_journal.specs.Steps.{Steps};
 
-use crate::numbered::{is_next, numbered, put};
-use crate::recent::Recent;
-use journal_model::{ContextState, Duty, How, Owed, RequestState, Standing};
+use crate::current::Current;
+use crate::whole::{all_closed, none_serves};
+use journal_model::{ContextState, Event, RequestState, Sizes, Totals};
 use machine_model::Memory;
 use std::alloc::Global;
 use std::marker::Model;
 
-/// Where a journal stands: the model's state, with requests and contexts found by their numbers.
+/// A journal so far: its sizes, and where requests, contexts, layers and frames stand after the
+/// events that were read.
 #[derive(Drop)]
 pub struct Journal {
-    idle: Recent,
-    kept: Recent,
-    requests: Vec<RequestState>,
-    contexts: Vec<ContextState>,
-    free: u32,
-    owed: Owed,
+    sizes: Sizes,
+    current: Current,
 }
 
 impl Model for Journal {
-    ghost use Rattle.std.specs.Prelude.{◌<◌, ◌^◌, length};
-    ghost use Rattle.journal_model.specs.State.{State};
+    ghost use Rattle.journal_model.specs.State.{Replay};
 
-    ghost Value = { State };
+    ghost Value = { Replay };
 
-    ghost view = { λ j. record {
-      idle = j.idle;
-      kept = j.kept;
-      requests = j.requests.items;
-      contexts = j.contexts.items;
-      free = j.free;
-      owed = j.owed;
-    } };
-
-    ghost invariant = { λ j. length j.requests.items < 2 ^ 32 };
+    ghost view = { λ j. record { sizes = j.sizes; state = j.current } };
 }
 
 impl Journal {
-    /// Nothing was started or drawn, and so many frames are free.
-    pub fn new(alloc: Global, free: u32) -> Journal
-        ensures { result ≡ record {
-          idle = [];
-          kept = [];
-          requests = [];
-          contexts = [];
-          free = free;
-          owed = Nothing;
-        } }
+    /// A journal of no events.
+    pub fn open(alloc: Global, sizes: Sizes) -> Journal
+        ensures { result ≡ record { sizes = sizes; state = legal.at_first sizes } }
     {
-        Journal {
-            idle: Recent::new(alloc),
-            kept: Recent::new(alloc),
-            requests: Vec::new(alloc),
-            contexts: Vec::new(alloc),
-            free,
-            owed: Owed::Nothing,
-        }
+        let current = Current::new(alloc, sizes.frames);
+        Journal { sizes, current }
     }
 
-    /// The idle contexts, most recent first.
-    pub fn idle(&self) -> &Recent
-        ensures { result.now ≡ self.now.idle }
+    /// Reads an event: true where it may stand there. Where it may not, and where memory ran out,
+    /// the journal is as it was.
+    pub fn step(&mut self, event: Event) -> Result<bool, Memory>
+        ensures state { Steps result self.old.state self.new.state
+            (legal.after self.old.sizes self.old.state event) }
+        ensures sizes { self.new.sizes ≡ self.old.sizes }
     {
-        &self.idle
+        self.current.step(&self.sizes, event)
     }
 
-    /// The kept layers, most recent first.
-    pub fn kept(&self) -> &Recent
-        ensures { result.now ≡ self.now.kept }
+    /// The sizes.
+    pub fn sizes(&self) -> &Sizes
+        ensures { result.now ≡ self.now.sizes }
     {
-        &self.kept
+        &self.sizes
     }
 
-    /// The requests that were started, fewer than 2^32.
+    /// The requests that were started, in the order of their numbers, fewer than 2^32.
     pub fn requests(&self) -> &[RequestState]
-        ensures items { result.now ≡ self.now.requests }
+        ensures items { result.now ≡ self.now.state.requests }
         ensures few { length result.now < 2 ^ 32 }
     {
-        &self.requests
+        self.current.requests()
     }
 
-    /// The contexts that were drawn.
+    /// The contexts that were drawn, in the order of their numbers.
     pub fn contexts(&self) -> &[ContextState]
-        ensures { result.now ≡ self.now.contexts }
+        ensures { result.now ≡ self.now.state.contexts }
     {
-        &self.contexts
+        self.current.contexts()
+    }
+
+    /// Request `i`, counted from 1; none where it wasn't started.
+    pub fn request(&self, i: u32) -> Option<RequestState>
+        ensures { result ≡ model.numbered self.now.state.requests i }
+    {
+        self.current.request(i)
+    }
+
+    /// Context `c`, counted from 1; none where it wasn't drawn.
+    pub fn context(&self, c: u32) -> Option<ContextState>
+        ensures { result ≡ model.numbered self.now.state.contexts c }
+    {
+        self.current.context(c)
     }
 
     /// How many frames are free.
     pub fn free(&self) -> u32
-        ensures { result ≡ self.now.free }
+        ensures { result ≡ self.now.state.free }
     {
-        self.free
+        self.current.free()
     }
 
-    /// Says how many frames are free.
-    pub fn set_free(&mut self, free: u32)
-        ensures { self.new ≡ record self.old { free = free } }
+    /// The numbers of the idle contexts, most recent first.
+    pub fn idle(&self) -> &[u32]
+        ensures { result.now ≡ self.now.state.idle }
     {
-        self.free = free;
+        self.current.idle().as_slice()
     }
 
-    /// What must stand next.
-    pub fn owed(&self) -> Owed
-        ensures { result ≡ self.now.owed }
+    /// The numbers of the kept layers, most recent first.
+    pub fn kept(&self) -> &[u32]
+        ensures { result.now ≡ self.now.state.kept }
     {
-        self.owed
+        self.current.kept().as_slice()
     }
 
-    /// Says what must stand next.
-    pub fn set_owed(&mut self, owed: Owed)
-        ensures { self.new ≡ record self.old { owed = owed } }
+    /// How many requests were started, how many of them each way, and how many frames are free.
+    pub fn totals(&self) -> Totals
+        ensures { result ≡ legal.totals self.now.state }
     {
-        self.owed = owed;
+        self.current.totals()
     }
 
-    /// Request `i`, if it was started.
-    pub fn request(&self, i: u32) -> Option<RequestState>
-        ensures { result ≡ model.numbered self.now.requests i }
+    /// Whether any event may stand next, so that the journal is legal if it ends here.
+    pub fn owes_nothing(&self) -> bool
+        ensures { result ≡ legal.owes_nothing self.now.state.owed }
     {
-        numbered(&self.requests, i)
+        self.current.owes_nothing()
     }
 
-    /// Context `c`, if it was drawn.
-    pub fn context(&self, c: u32) -> Option<ContextState>
-        ensures { result ≡ model.numbered self.now.contexts c }
+    /// Whether each started request was answered, refused or wanted, and no context serves one.
+    pub fn is_whole(&self) -> bool
+        ensures { (result ≡ true) ↔ legal.IsWhole self.now.state }
     {
-        numbered(&self.contexts, c)
-    }
-
-    /// Whether `i` is the number of the next request.
-    pub fn is_next_request(&self, i: u32) -> bool
-        ensures { result ≡ (i == length self.now.requests + 1) }
-    {
-        is_next(i, self.requests.len())
-    }
-
-    /// Whether `c` is the number of the next context.
-    pub fn is_next_context(&self, c: u32) -> bool
-        ensures { result ≡ (c == length self.now.contexts + 1) }
-    {
-        is_next(c, self.contexts.len())
-    }
-
-    /// Adds a request. Where memory ran out, nothing is said of what is there.
-    pub fn add_request(&mut self, request: RequestState) -> Result<(), Memory>
-        requires { length self.old.requests + 1 < 2 ^ 32 }
-        ensures { OnOk result (self.new ≡ record self.old {
-          requests = self.old.requests ++ request ∷ [];
-        }) }
-    {
-        if self.requests.push(request).is_err() {
-            return Err(Memory);
-        }
-        Ok(())
-    }
-
-    /// Adds a context. Where memory ran out, nothing is said of what is there.
-    pub fn add_context(&mut self, context: ContextState) -> Result<(), Memory>
-        ensures { OnOk result (self.new ≡ record self.old {
-          contexts = self.old.contexts ++ context ∷ [];
-        }) }
-    {
-        if self.contexts.push(context).is_err() {
-            return Err(Memory);
-        }
-        Ok(())
-    }
-
-    /// Makes a context the most recent idle one.
-    pub fn put_idle(&mut self, c: u32) -> Result<(), Memory>
-        ensures { OnOk result (self.new ≡ record self.old { idle = c ∷ self.old.idle }) }
-    {
-        self.idle.put_first(c)
-    }
-
-    /// Takes a context from the idle ones.
-    pub fn remove_idle(&mut self, c: u32)
-        ensures { self.new ≡ record self.old { idle = model.without c self.old.idle } }
-    {
-        self.idle.remove(c);
-    }
-
-    /// Makes a layer the most recent kept one.
-    pub fn put_kept(&mut self, k: u16) -> Result<(), Memory>
-        ensures { OnOk result (self.new ≡ record self.old { kept = k ∷ self.old.kept }) }
-    {
-        self.kept.put_first(u32::from(k))
-    }
-
-    /// Takes a layer from the kept ones.
-    pub fn remove_kept(&mut self, k: u16)
-        ensures { self.new ≡ record self.old { kept = model.without k self.old.kept } }
-    {
-        self.kept.remove(u32::from(k));
-    }
-
-    /// Gives request `i` another state.
-    fn set_request(&mut self, i: u32, request: RequestState)
-        ensures { self.new ≡ record self.old {
-          requests = legal.with_numbered i request self.old.requests;
-        } }
-    {
-        put(&mut self.requests, i, request);
-    }
-
-    /// Gives context `c` another state.
-    fn set_context(&mut self, c: u32, context: ContextState)
-        ensures { self.new ≡ record self.old {
-          contexts = legal.with_numbered c context self.old.contexts;
-        } }
-    {
-        put(&mut self.contexts, c, context);
-    }
-
-    /// Says how request `i` stands.
-    #[tactic(auto, unfolding(journal_model::specs::Legal::with_standing))]
-    pub fn set_standing(&mut self, i: u32, standing: Standing)
-        ensures { self.new ≡ record self.old {
-          requests = legal.with_standing i standing self.old.requests;
-        } }
-    {
-        if let Some(request) = self.request(i) {
-            self.set_request(
-                i,
-                RequestState {
-                    standing,
-                    ..request
-                },
-            );
-        }
-    }
-
-    /// Says which context request `i` was given, and where that came from.
-    #[tactic(auto, unfolding(journal_model::specs::Legal::with_service))]
-    pub fn set_service(&mut self, i: u32, how: How, c: u32)
-        ensures { self.new ≡ record self.old {
-          requests = legal.with_service i how c self.old.requests;
-        } }
-    {
-        if let Some(request) = self.request(i) {
-            let context = Some(c);
-            self.set_request(
-                i,
-                RequestState {
-                    how,
-                    context,
-                    ..request
-                },
-            );
-        }
-    }
-
-    /// Says what context `c` is there for.
-    #[tactic(auto, unfolding(journal_model::specs::Legal::with_duty))]
-    pub fn set_duty(&mut self, c: u32, duty: Duty)
-        ensures { self.new ≡ record self.old {
-          contexts = legal.with_duty c duty self.old.contexts;
-        } }
-    {
-        if let Some(context) = self.context(c) {
-            self.set_context(c, ContextState { duty, ..context });
-        }
-    }
-
-    /// Says at which layer context `c` stands.
-    #[tactic(auto, unfolding(journal_model::specs::Legal::with_layer))]
-    pub fn set_layer(&mut self, c: u32, k: u16)
-        ensures { self.new ≡ record self.old {
-          contexts = legal.with_layer c k self.old.contexts;
-        } }
-    {
-        if let Some(context) = self.context(c) {
-            let layer = Some(k);
-            self.set_context(c, ContextState { layer, ..context });
-        }
-    }
-
-    /// Says how many requests context `c` answered.
-    #[tactic(auto, unfolding(journal_model::specs::Legal::with_used))]
-    pub fn set_used(&mut self, c: u32, used: u64)
-        ensures { self.new ≡ record self.old {
-          contexts = legal.with_used c used self.old.contexts;
-        } }
-    {
-        if let Some(context) = self.context(c) {
-            self.set_context(c, ContextState { used, ..context });
-        }
+        all_closed(self.current.requests()) && none_serves(self.current.contexts())
     }
 }

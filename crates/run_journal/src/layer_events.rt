@@ -7,7 +7,7 @@ ghost use Rattle.journal_model.specs.declared.event.Event.TheVariants.{Built, Ke
 ghost use Rattle.journal_model.specs.declared.event.Event.TheVariants.{Back};
 ghost use Rattle.run_journal.specs.Steps.{Steps};
 
-use crate::journal::Journal;
+use crate::current::Current;
 use crate::owing::{owed_after_drop, owes_drop, owes_dup, owes_keep};
 use journal_model::{Owed, Sizes};
 use machine_model::Memory;
@@ -35,7 +35,7 @@ fn is_number_of(number: Option<u32>, k: u16) -> bool
     }
 }
 
-impl Journal {
+impl Current {
     /// Whether context `c` may be captured as layer `k`.
     #[tactic(auto, unfolding(journal_model::specs::Legal::may_build))]
     fn may_build(&self, sizes: &Sizes, c: u32, k: u16) -> bool

@@ -3,6 +3,7 @@
 
 mod conditions;
 mod context_events;
+mod current;
 mod journal;
 mod layer_events;
 mod numbered;
@@ -10,10 +11,14 @@ mod owing;
 mod recent;
 mod request_events;
 mod stacks;
+mod stepping;
 mod verdict;
+mod whole;
 
 pub use event_text::{lines_have_one_event, print_event, read_event};
+pub use journal::Journal;
 pub use journal_model::{
-    Answer, End, Event, FunctionStack, How, Judged, Packets, Sizes, Totals, Why,
+    Answer, ContextState, Duty, End, Event, FunctionStack, How, Judged, Owed, Packets,
+    RequestState, Sizes, Standing, Totals, Why,
 };
 pub use verdict::judge;

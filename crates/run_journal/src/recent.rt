@@ -96,6 +96,22 @@ impl Recent {
         Ok(())
     }
 
+    /// Puts a number first, and takes out where it stood before, if it did. Where memory ran out, all
+    /// is as before.
+    #[tactic(auto, using(crate::proofs::Lists::without_is, crate::proofs::Lists::without_absent))]
+    pub fn bring_to_front(&mut self, number: u32) -> Result<(), Memory>
+        ensures ok { OnOk result (self.new ≡ number ∷ model.without number self.old) }
+        ensures err { OnErr result (self.new ≡ self.old) }
+    {
+        let place = place_of(number, &self.numbers);
+        let stands = place < self.numbers.len();
+        self.put_first(number)?;
+        if stands {
+            let _number = self.numbers.remove(place + 1);
+        }
+        Ok(())
+    }
+
     /// Takes a number out.
     #[tactic(auto, using(crate::proofs::Lists::without_is, crate::proofs::Lists::without_absent))]
     pub fn remove(&mut self, number: u32)

@@ -6,7 +6,7 @@ ghost use Rattle.journal_model.specs.declared.event.Event.TheVariants.{Start, Re
 ghost use Rattle.journal_model.specs.declared.event.Event.TheVariants.{Answer};
 ghost use Rattle.run_journal.specs.Steps.{Steps};
 
-use crate::journal::Journal;
+use crate::current::Current;
 use journal_model::{How, Owed, RequestState, Sizes, Standing};
 use machine_model::Memory;
 
@@ -20,7 +20,7 @@ fn is_clock(clock: Option<u64>, t: u64) -> bool
     }
 }
 
-impl Journal {
+impl Current {
     /// Whether request `i` may be started.
     #[tactic(auto, unfolding(journal_model::specs::Legal::may_start))]
     fn may_start(&self, sizes: &Sizes, i: u32, f: u16, t: u64) -> bool
@@ -49,8 +49,19 @@ impl Journal {
             standing: Standing::Open,
             how: How::None,
             context: None,
+            used: 0,
+            place: None,
         })?;
         Ok(true)
+    }
+
+    /// Request `i` stands otherwise, and nothing else changes.
+    #[tactic(auto, unfolding(journal_model::specs::Legal::after_standing))]
+    fn fail(&mut self, i: u32, standing: Standing)
+        ensures { self.new ≡ legal.after_standing self.old i standing }
+    {
+        let place = self.place_of_given(self.given_to(i));
+        self.set_standing(i, standing, place);
     }
 
     /// Whether request `i` may be refused.
@@ -66,7 +77,6 @@ impl Journal {
     }
 
     /// `refuse i`.
-    #[tactic(auto, unfolding(journal_model::specs::Legal::after_standing))]
     pub fn refuse(&mut self, sizes: &Sizes, i: u32) -> bool
         ensures { Steps (Ok result) self.old self.new
             (legal.after sizes.now self.old (Refuse i)) }
@@ -74,7 +84,7 @@ impl Journal {
         if !self.may_refuse(i) {
             return false;
         }
-        self.set_standing(i, Standing::Refused);
+        self.fail(i, Standing::Refused);
         true
     }
 
@@ -87,14 +97,13 @@ impl Journal {
     }
 
     /// `want i`.
-    #[tactic(auto, unfolding(journal_model::specs::Legal::after_standing))]
     pub fn want(&mut self, sizes: &Sizes, i: u32) -> bool
         ensures { Steps (Ok result) self.old self.new (legal.after sizes.now self.old (Want i)) }
     {
         if !self.may_want(i) {
             return false;
         }
-        self.set_standing(i, Standing::Wanted);
+        self.fail(i, Standing::Wanted);
         true
     }
 
@@ -132,7 +141,8 @@ impl Journal {
             return false;
         }
         let owed = self.owed_after_answer(sizes, c, u);
-        self.set_standing(i, Standing::Answered);
+        let place = self.place_of(c);
+        self.set_standing(i, Standing::Answered, place);
         self.set_used(c, u64::from(u) + 1);
         self.set_owed(owed);
         true

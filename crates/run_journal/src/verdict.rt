@@ -1,111 +1,12 @@
 //! Whether a journal is legal.
 
-ghost use Rattle.std.specs.Prelude.{◌≡◌, ◌^◌, ◌<◌, IfOk, length, count_by};
+ghost use Rattle.std.specs.Prelude.{◌≡◌, IfOk};
 ghost use Rattle.journal_model.specs.Legal as legal;
-ghost use Rattle.journal_model.specs.declared.state.RequestState.{RequestState};
-ghost use Rattle.run_journal.specs.Steps.{Steps};
 
 use crate::journal::Journal;
-use journal_model::{Event, How, Judged, RequestState, Sizes, Totals};
+use journal_model::{Event, Judged, Sizes};
 use machine_model::Memory;
 use std::alloc::Global;
-
-fn is_cold(how: How) -> bool
-    ensures { result ≡ legal.is_cold how }
-{
-    matches!(how, How::Cold)
-}
-
-fn is_warm(how: How) -> bool
-    ensures { result ≡ legal.is_warm how }
-{
-    matches!(how, How::Warm)
-}
-
-fn is_hot(how: How) -> bool
-    ensures { result ≡ legal.is_hot how }
-{
-    matches!(how, How::Hot)
-}
-
-fn is_without(how: How) -> bool
-    ensures { result ≡ legal.is_without how }
-{
-    matches!(how, How::None)
-}
-
-/// How many requests had a cold start.
-fn cold(requests: &[RequestState]) -> u32
-    requires { length requests.now < 2 ^ 32 }
-    ensures { result ≡ count_by (λ (r : RequestState). legal.is_cold r.how) requests.now }
-{
-    requests.iter().filter(|r| is_cold(r.how)).count() as u32
-}
-
-/// How many requests had a warm start.
-fn warm(requests: &[RequestState]) -> u32
-    requires { length requests.now < 2 ^ 32 }
-    ensures { result ≡ count_by (λ (r : RequestState). legal.is_warm r.how) requests.now }
-{
-    requests.iter().filter(|r| is_warm(r.how)).count() as u32
-}
-
-/// How many requests took an idle context.
-fn hot(requests: &[RequestState]) -> u32
-    requires { length requests.now < 2 ^ 32 }
-    ensures { result ≡ count_by (λ (r : RequestState). legal.is_hot r.how) requests.now }
-{
-    requests.iter().filter(|r| is_hot(r.how)).count() as u32
-}
-
-/// How many requests had no context.
-fn without(requests: &[RequestState]) -> u32
-    requires { length requests.now < 2 ^ 32 }
-    ensures { result ≡ count_by (λ (r : RequestState). legal.is_without r.how) requests.now }
-{
-    requests.iter().filter(|r| is_without(r.how)).count() as u32
-}
-
-impl Journal {
-    /// How many requests were started, how many of them each way, and how many frames are free.
-    #[tactic(auto, unfolding(journal_model::specs::Legal::totals))]
-    fn totals(&self) -> Totals
-        ensures { result ≡ legal.totals self.now }
-    {
-        let requests = self.requests();
-        Totals {
-            requests: requests.len() as u32,
-            cold: cold(requests),
-            warm: warm(requests),
-            hot: hot(requests),
-            none: without(requests),
-            free: self.free(),
-        }
-    }
-
-    /// Goes over an event: true where it may stand there.
-    fn step(&mut self, sizes: &Sizes, event: Event) -> Result<bool, Memory>
-        ensures { Steps result self.old self.new (legal.after sizes.now self.old event) }
-    {
-        match event {
-            Event::Start { i, f, t } => self.start(sizes, i, f, t),
-            Event::Take { c, i } => Ok(self.take(sizes, c, i)),
-            Event::Deploy { c, k, i, n } => self.deploy(sizes, c, k, i, n),
-            Event::Refill { c, h, n } => Ok(self.refill(sizes, c, h, n)),
-            Event::Built { c, k, d } => Ok(self.built(sizes, c, k, d)),
-            Event::Keep { k } => self.keep(sizes, k),
-            Event::Dup { k } => Ok(self.dup(sizes, k)),
-            Event::Drop { k } => Ok(self.drop_layer(sizes, k)),
-            Event::Evict { c } => Ok(self.evict(sizes, c)),
-            Event::Park { c } => self.park(sizes, c),
-            Event::End { c } => Ok(self.end(sizes, c)),
-            Event::Back { n } => Ok(self.back(sizes, n)),
-            Event::Refuse { i } => Ok(self.refuse(sizes, i)),
-            Event::Want { i } => Ok(self.want(sizes, i)),
-            Event::Answer { i, c, u } => Ok(self.answer(sizes, i, c, u)),
-        }
-    }
-}
 
 /// Judges a journal: its totals where it is legal; else the first event, counted from 0, that may
 /// not stand where it does, or the number of events where one is still owed at the end. `Memory`
@@ -113,9 +14,9 @@ impl Journal {
 pub fn judge(alloc: Global, sizes: &Sizes, events: &[Event]) -> Result<Judged, Memory>
     ensures { IfOk result (λ judged. judged ≡ legal.judged sizes.now events.now) }
 {
-    let mut journal = Journal::new(alloc, sizes.frames);
+    let mut journal = Journal::open(alloc, sizes.copy(alloc)?);
     for (at, event) in events.iter().enumerate() {
-        if !journal.step(sizes, *event)? {
+        if !journal.step(*event)? {
             return Ok(Judged::Broken { at });
         }
     }

@@ -1,6 +1,6 @@
 use Rattle.std.proofs.Common.{sym, ◌∙◌}
 use Rattle.run_journal.proofs.Debts.{built_kept}
-use Rattle.run_journal.proofs.journal.Journal.owed_after_built.Goals as goal
+use Rattle.run_journal.proofs.current.Current.owed_after_built.Goals as goal
 
 pub returns-then-contains : goal.returns-then-contains
 returns-then-contains c =

@@ -1,6 +1,6 @@
 use Rattle.std.proofs.Common.{sym, ◌∙◌}
 use Rattle.run_journal.proofs.Debts.{answered_full, answered_room}
-use Rattle.run_journal.proofs.journal.Journal.owed_after_answer.Goals as goal
+use Rattle.run_journal.proofs.current.Current.owed_after_answer.Goals as goal
 
 pub returns-then-is_full : goal.returns-then-is_full
 returns-then-is_full c =

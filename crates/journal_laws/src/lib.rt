@@ -1,0 +1,13 @@
+//! Laws of journals, for whoever appends to one. A function here does nothing: its contract is the
+//! law.
+#![tactic(auto)]
+
+mod appending;
+mod layers;
+mod names;
+mod weights;
+
+pub use appending::{journals_follow_one_another, legal_journals_are_judged_so};
+pub use layers::{highest_kept_is_one, layers_stand_above_one_place, rising_stacks_are_sized};
+pub use names::{closed_requests_stay, events_leave_what_they_do_not_name};
+pub use weights::sums_change_by_one_item;
