@@ -1,6 +1,7 @@
 -- What a gain makes of a view, in each case.
 use Rattle.std.proofs.Common.{◌≡◌, ℕ, Bool, true, false, eqb, List, ◌∷◌, ap, ⊎_elim}
 use Rattle.std.proofs.lemmas.Bool.{cases_Bool, and_left, and_right, and_from, or_cases, or_left, eq-eqb, cond-true}
+use Rattle.frame_model.specs.Words.{depth}
 use Rattle.frame_model.specs.declared.view.View.{View}
 use Rattle.frame_model.specs.Views.{Has, has, children, part_of, without, less_one, reach}
 use Rattle.frame_model.proofs.Parts.{has_true, true_has, false_has}
@@ -43,7 +44,7 @@ pub less_here : (x y : ℕ) (ys : List ℕ) → x ≡ y → less_one x (y ∷ ys
 less_here x y ys e = cond-true (eqb x y) ys (y ∷ less_one x ys) (eq-eqb x y e)
 
 pub own_reached : (v : View) (f : ℕ) → Has f v.owned → Has f (reach v)
-own_reached v f h = within_front v.known 3 _ f (has_left f v.owned v.references h)
+own_reached v f h = within_front v.known depth _ f (has_left f v.owned v.references h)
 
 pub referred_reached : (v : View) (f : ℕ) → Has f v.references → Has f (reach v)
-referred_reached v f h = within_front v.known 3 _ f (has_right f v.owned v.references h)
+referred_reached v f h = within_front v.known depth _ f (has_right f v.owned v.references h)

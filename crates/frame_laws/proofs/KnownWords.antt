@@ -1,10 +1,11 @@
 -- What is known of a frame after a step.
 use Rattle.std.proofs.Common.{◌≡◌, ℕ, Bool, true, false, List, [], ◌∷◌, ◌++◌, refl, sym, ap, subst, ◌∙◌, inl, inr, ⊎_elim}
-use Rattle.std.proofs.lemmas.Bool.{cases_eq}
+use Rattle.std.proofs.lemmas.Bool.{cases_eq, and_left}
 use Rattle.frame_model.specs.declared.kind.Kind.{Kind}
 use Rattle.frame_model.specs.declared.view.Known.{Known}
 use Rattle.frame_model.specs.declared.view.View.{View}
-use Rattle.frame_model.specs.Views.{Has, has, forget, known_of, words_of, reach, sights, with_known}
+use Rattle.frame_model.specs.Views.{Has, has, part_of, forget, known_of, words_of, reach, sights, with_known}
+use Rattle.frame_model.proofs.Parts.{false_has}
 use Rattle.frame_model.proofs.Reach.{known_here, known_else, forget_else}
 use Rattle.frame_words.specs.declared.part.Part.{Part}
 use Rattle.frame_words.specs.declared.part.Part.TheVariants.{Pile, Root}
@@ -12,7 +13,7 @@ use Rattle.frame_words.specs.Steps.{less_root, root_alone, kept_of, given_of, jo
 use Rattle.frame_words.proofs.Unions.{sights_here}
 use Rattle.frame_steps.specs.declared.lost.Lost.{Lost}
 use Rattle.frame_steps.specs.declared.lost.Lost.TheVariants.{Owned, Shared}
-use Rattle.frame_steps.specs.Counted.{entered, gained, lost}
+use Rattle.frame_steps.specs.Counted.{entered, is_counted, gives_up, left_by, gained, lost}
 
 -- news of an owned frame is none of another
 pub news_else : (v : View) (f : ℕ) (kind : Kind) (words : List ℕ) (g : ℕ) → Has f v.owned → (Has g v.owned → ⊥) → words_of (with_known v f kind words) g ≡ words_of v g
@@ -32,6 +33,14 @@ pub lost_words : (o : Lost) (v : View) (f g : ℕ) → words_of (lost o v f) g �
 unfolding lost
 lost_words Owned v f g = refl
 lost_words Shared v f g = refl
+
+-- a frame that isn't owned isn't given up
+pub gained_shared : (v : View) (f : ℕ) → (Has f v.owned → ⊥)
+    → gained v f ≡ part_of v v.owned (f ∷ v.references) v.stake
+unfolding gained gives_up
+gained_shared v f away =
+    let e = and_left (has f v.owned) (is_counted v f) (false_has f v.owned away) in
+    ap (λ (b : Bool). part_of v (left_by b v f) (f ∷ v.references) v.stake) e
 
 less_root_words : (own : Bool) (v : View) (root stake g : ℕ) → words_of (less_root own v root stake) g ≡ words_of v g
 less_root_words true v root stake g = refl

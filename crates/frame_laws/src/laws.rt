@@ -1,9 +1,9 @@
 //! Laws of the steps. A function here does nothing: its contract is the law.
 
-ghost use Rattle.std.specs.Prelude.{◌≡◌, ℕ};
+ghost use Rattle.std.specs.Prelude.{◌≡◌, ℕ, ◌∷◌};
 ghost use Rattle.frame_model.specs.declared.kind.Kind.{Kind};
 ghost use Rattle.frame_model.specs.declared.view.View.{View};
-ghost use Rattle.frame_model.specs.Views.{Has, words_of, reach};
+ghost use Rattle.frame_model.specs.Views.{Has, Names, words_of, reach, part_of, IsSound};
 ghost use Rattle.frame_words.specs.declared.part.Part.{Part};
 ghost use Rattle.frame_words.specs.Steps.{put, dressed, kept_of, given_of, joined};
 ghost use Rattle.frame_steps.specs.declared.lost.Lost.{Lost};
@@ -38,4 +38,13 @@ pub fn joined_views_know_what_was_known()
         → words_of (joined v w) g ≡ words_of v g }
     ensures other { (v w : View) (g : ℕ) → (Has g (reach v) → ⊥) → Has g (reach w)
         → words_of (joined v w) g ≡ words_of w g }
+{}
+
+/// A gain of a frame that isn't owned gives up nothing. Of what a table names that a holder
+/// reaches and doesn't own, it owns nothing.
+pub fn gains_of_shared_frames_give_up_nothing()
+    ensures gained { (v : View) (f : ℕ) → (Has f v.owned → ⊥)
+        → gained v f ≡ part_of v v.owned (f ∷ v.references) v.stake }
+    ensures child { (v : View) → IsSound v → (g f : ℕ) → Has g (reach v) → (Has g v.owned → ⊥)
+        → Names v g f → Has f v.owned → ⊥ }
 {}

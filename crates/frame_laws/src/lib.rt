@@ -6,6 +6,6 @@
 mod laws;
 
 pub use laws::{
-    cut_views_know_what_was_known, joined_views_know_what_was_known, owned_words_alone_change,
-    references_change_no_word,
+    cut_views_know_what_was_known, gains_of_shared_frames_give_up_nothing,
+    joined_views_know_what_was_known, owned_words_alone_change, references_change_no_word,
 };

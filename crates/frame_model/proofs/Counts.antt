@@ -1,12 +1,12 @@
 -- Numbers of links and references.
 use Rattle.std.proofs.Common.{◌≡◌, ℕ, zero, suc, ◌+◌, ◌*◌, ◌^◌, ◌<◌, ◌≤◌, ◌⊎◌, Bool, true, false, not, ◌&&◌, eqb, if◌then◌else◌, List, [], ◌∷◌, ◌++◌, length, refl, sym, ap, subst, ◌∙◌, ⊎_elim, arith, length-append}
-use mathlib.Core.Option.{some, some-ne-none, some-injective}
-use lib.ListN.{get_elem?}
-use Rattle.std.proofs.lemmas.Bool.{cases_eq, and_left, and_right, and_from, eq-eqb, ne_eqb}
+use mathlib.Core.Option.{some-ne-none, some-injective}
+use Rattle.std.proofs.lemmas.Bool.{cases_eq, cases_Bool, and_left, and_right, and_from, eq-eqb, ne_eqb}
 use Rattle.frame_model.specs.declared.view.View.{View}
-use Rattle.frame_model.specs.Words.{Frames, kind_at, count_at, names, target, links_in, links_below, links}
-use Rattle.frame_model.specs.Views.{one_if, times, IsStaked, whole_stake}
+use Rattle.frame_model.specs.Words.{Frames, kind_at, count_at, names, target, links_in, links_below}
+use Rattle.frame_model.specs.Views.{Has, one_if, times, IsStaked}
 use Rattle.frame_model.specs.Rule.{At, total, FrameRule}
+use Rattle.frame_model.proofs.Reach.{absent, dec_has}
 
 -- ---- links
 
@@ -189,3 +189,60 @@ pub total_at : (h : View → ℕ) (views : List View) (id : ℕ) (v : View) → 
 total_at h [] id v at = absurd (some-ne-none v (sym at))
 total_at h (x ∷ xs) zero v at = let is : h x ≡ h v = ap h (some-injective x v at) in omega arith
 total_at h (x ∷ xs) (suc id) v at = let r = total_at h xs id v at in omega arith
+
+-- two views' numbers are at most the total
+pub total_two : (h : View → ℕ) (views : List View) (id other : ℕ) (v w : View) → At views id v
+    → At views other w → (id ≡ other → ⊥) → h v + h w ≤ total h views
+total_two h [] id other v w at there ne = absurd (some-ne-none v (sym at))
+total_two h (x ∷ xs) zero zero v w at there ne = absurd (ne refl)
+total_two h (x ∷ xs) zero (suc other) v w at there ne =
+    let is : h x ≡ h v = ap h (some-injective x v at) in
+    let r = total_at h xs other w there in
+    omega arith
+total_two h (x ∷ xs) (suc id) zero v w at there ne =
+    let is : h x ≡ h w = ap h (some-injective x w there) in
+    let r = total_at h xs id v at in
+    omega arith
+total_two h (x ∷ xs) (suc id) (suc other) v w at there ne =
+    let r = total_two h xs id other v w at there (λ e. ne (ap suc e)) in
+    omega arith
+
+-- ---- where there is a link, or a reference
+
+link_in : (m : Frames) (f g i : ℕ) → 0 < length (links_in m f g i)
+    → (j : ℕ) × (j < i) × (names m f g j ≡ true)
+unfolding links_in
+link_in m f g zero h = absurd (omega arith)
+link_in m f g (suc i) h = ⊎_elim
+    (λ (t : names m f g i ≡ true). (i, omega arith, t))
+    (λ (o : names m f g i ≡ false).
+    let a = length-append (links_in m f g i) (if names m f g i then (g, i) ∷ [] else []) in
+    let b = if_none (names m f g i) (g, i) o in
+    let r = link_in m f g i (omega arith) in
+    (r.0, omega (arith, r.1), r.2))
+    (cases_Bool (names m f g i))
+
+pub link_below : (m : Frames) (f n : ℕ) → 0 < length (links_below m f n)
+    → (g : ℕ) × (i : ℕ) × (g < n) × (i < 512) × (names m f g i ≡ true)
+unfolding links_below
+link_below m f zero h = absurd (omega arith)
+link_below m f (suc n) h = ⊎_elim
+    (λ (z : length (links_in m f n 512) ≡ 0).
+    let a = length-append (links_below m f n) (links_in m f n 512) in
+    let r = link_below m f n (omega arith) in
+    (r.0, r.1, omega (arith, r.2), r.3, r.4))
+    (λ (some : length (links_in m f n 512) ≡ 0 → ⊥).
+    let r = link_in m f n 512 (omega arith) in
+    (n, r.0, omega arith, r.1, r.2))
+    (cases_eq (length (links_in m f n 512)) 0)
+
+pub some_referrer : (f : ℕ) (views : List View) → 0 < total (λ v. times f v.references) views
+    → (id : ℕ) × (v : View) × At views id v × Has f v.references
+some_referrer f [] h = absurd (omega arith)
+some_referrer f (v ∷ vs) h = ⊎_elim
+    (λ r. (0, v, refl, r))
+    (λ away.
+    let z = absent f v.references away in
+    let r = some_referrer f vs (omega arith) in
+    (suc r.0, r.1, r.2, r.3))
+    (dec_has f v.references)

@@ -1,4 +1,5 @@
 pub mod Counts
+pub mod Covers
 pub mod Opening
 pub mod Owners
 pub mod Parts

@@ -1,13 +1,14 @@
 -- The rule of a new table, of which one holder owns all frames.
-use Rattle.std.proofs.Common.{◌≡◌, ℕ, zero, suc, ◌+◌, ◌*◌, ◌%◌, ◌/◌, ◌<◌, ◌≤◌, ◌≢◌, ◌⊎◌, List, [], ◌∷◌, ◌++◌, length, get_or, replicate, refl, sym, ap, subst, ◌∙◌, inl, inr, ⊎_elim, arith}
+use Rattle.std.proofs.Common.{◌≡◌, ℕ, zero, suc, ◌+◌, ◌*◌, ◌<◌, ◌≤◌, List, [], ◌∷◌, ◌++◌, length, replicate, refl, sym, subst, ◌∙◌, inl, inr, ⊎_elim, arith}
 use Rattle.std.specs.Prelude.{slice_index}
 use Rattle.std.proofs.lemmas.List.{length-replicate}
-use mathlib.Core.Option.{some, some-ne-none, some-injective}
+use mathlib.Core.Option.{some-ne-none, some-injective}
 use Rattle.std.proofs.lemmas.Bool.{cases_eq}
+use Rattle.frame_model.specs.Words.{depth}
 use Rattle.frame_model.specs.declared.view.View.{View}
-use Rattle.frame_model.specs.Words.{Frames, frames_in, kind_at, count_at, IsMeta, names, links}
+use Rattle.frame_model.specs.Words.{Frames, frames_in, kind_at}
 use Rattle.frame_model.specs.Views.{Has, times, blank_words, children, within, reach, numbers_below, first_view, IsStaked}
-use Rattle.frame_model.specs.Rule.{At, total, Agrees, most_frames, FrameRule}
+use Rattle.frame_model.specs.Rule.{At, Agrees, most_frames, FrameRule}
 use Rattle.frame_model.proofs.Reach.{has_append, times_here, times_else, absent}
 use Rattle.frame_model.proofs.Counts.{names_data, links_none}
 
@@ -78,7 +79,7 @@ module _ (n : ℕ) where
   one_view (suc id) v at = absurd (some-ne-none v (sym at))
 
   reached : (f : ℕ) → Has f (reach (first_view n)) → f < n
-  reached f h = ⊎_elim (λ o. has_numbers n f o) (λ r. absurd r) (has_append f (numbers_below n) [] (within_blank 3 (numbers_below n ++ []) f h))
+  reached f h = ⊎_elim (λ o. has_numbers n f o) (λ r. absurd r) (has_append f (numbers_below n) [] (within_blank depth (numbers_below n ++ []) f h))
 
   zero_meta : (f : ℕ) → m.meta f ≡ 0
   unfolding m
@@ -98,7 +99,6 @@ module _ (n : ℕ) where
     whole = λ f h. blank_length;
     kind = λ f h. data_kind f;
     word = λ f i h lt. zero_word f i ∙ sym (blank_word i);
-    newest = λ k h. absurd h;
   }
 
   opened : n ≤ most_frames → FrameRule n m (first_view n ∷ [])

@@ -1,10 +1,11 @@
 -- Who owns a frame, and what its owner's view says of its count.
-use Rattle.std.proofs.Common.{◌≡◌, ℕ, zero, suc, ◌+◌, ◌%◌, ◌<◌, ◌≤◌, ◌≢◌, ◌⊎◌, Bool, true, false, not, ◌&&◌, eqb, List, [], ◌∷◌, ◌++◌, length, get_or, refl, sym, ap, subst, ◌∙◌, inl, inr, ⊎_elim, arith}
+use Rattle.std.proofs.Common.{◌≡◌, ℕ, ◌<◌, ◌≢◌, Bool, true, false, not, ◌&&◌, eqb, List, ◌++◌, sym, ap, subst, ◌∙◌, ⊎_elim, arith}
 use Rattle.std.proofs.lemmas.Bool.{cases_eq, and_parts, not-true, eqb-true, eqb-false}
+use Rattle.frame_model.specs.Words.{depth}
 use Rattle.frame_model.specs.declared.view.View.{View}
-use Rattle.frame_model.specs.Words.{Frames, kind_number, kind_at, count_at, names, target}
+use Rattle.frame_model.specs.Words.{Frames, kind_at, count_at, names, target}
 use Rattle.frame_model.specs.Views.{Has, times, known_of, kind_of, words_of, targets_of, children, reach, IsLoose}
-use Rattle.frame_model.specs.Rule.{At, total, Agrees, IsNamedByOwn, IsHeldOnce, FrameRule}
+use Rattle.frame_model.specs.Rule.{At, IsNamedByOwn, FrameRule}
 use Rattle.frame_model.proofs.Reach.{has_left, within_front, by_kind_has, has_by_kind, has_targets, targets_has, children_has, present}
 use Rattle.frame_model.proofs.Counts.{names_true, links_some, links_two, total_at}
 
@@ -21,7 +22,7 @@ named m f g i h =
 
 module _ (n : ℕ) (m : Frames) (views : List View) (rule : FrameRule n m views) where
   pub owned_reached : (v : View) (f : ℕ) → Has f v.owned → Has f (reach v)
-  owned_reached v f h = within_front v.known 3 (v.owned ++ v.references) f (has_left f v.owned v.references h)
+  owned_reached v f h = within_front v.known depth (v.owned ++ v.references) f (has_left f v.owned v.references h)
 
   pub one_owner : (id other : ℕ) (v w : View) → At views id v → At views other w → (f : ℕ) → Has f v.owned → Has f w.owned → id ≡ other
   one_owner id other v w at there f a b =

@@ -1,8 +1,7 @@
 -- Lists of frames that are cut in two.
-use Rattle.std.proofs.Common.{◌≡◌, ℕ, zero, suc, ◌+◌, ◌<◌, ◌≤◌, ◌⊎◌, Bool, true, false, ◌||◌, eqb, if◌then◌else◌, List, [], ◌∷◌, ◌++◌, length, refl, sym, ap, subst, ◌∙◌, inl, inr, ⊎_elim, arith}
+use Rattle.std.proofs.Common.{◌≡◌, ℕ, ◌+◌, true, false, eqb, List, [], ◌∷◌, length, refl, sym, ap, subst, ◌∙◌, inl, inr, ⊎_elim, arith}
 use Rattle.std.proofs.lemmas.Bool.{cases_eq, cases_Bool, eq-eqb, ne_eqb, eqb-true, or_cases, or_left, or_right, cond-true, cond-false}
 use Rattle.frame_model.specs.Views.{Has, has, times, among, without, less_one}
-use Rattle.frame_model.proofs.Reach.{times_here, times_else}
 
 pub has_true : (x : ℕ) (xs : List ℕ) → has x xs ≡ true → Has x xs
 has_true x [] e = absurd (cc)

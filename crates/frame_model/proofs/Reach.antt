@@ -5,7 +5,7 @@ use Rattle.frame_model.specs.declared.kind.Kind.{Kind}
 use Rattle.frame_model.specs.declared.kind.Kind.TheVariants.{Data, Leaf, Mid, Root}
 use Rattle.frame_model.specs.declared.view.Known.{Known}
 use Rattle.frame_model.specs.Words.{kind_number, target}
-use Rattle.frame_model.specs.Views.{Has, one_if, times, In, forget, known_of, targets, targets_by_kind, targets_of, children, within}
+use Rattle.frame_model.specs.Views.{Has, one_if, times, forget, known_of, targets, targets_by_kind, targets_of, children, within}
 
 -- ---- membership
 
@@ -172,20 +172,6 @@ forget_step k ks f g ne rest = ⊎_elim
 pub forget_else : (ks : List Known) (f g : ℕ) → (f ≡ g → ⊥) → known_of (forget f ks) g ≡ known_of ks g
 forget_else [] f g ne = refl
 forget_else (k ∷ ks) f g ne = forget_step k ks f g ne (forget_else ks f g ne)
-
--- what isn't forgotten was known, of another frame
-pub in_forget : (ks : List Known) (f : ℕ) (k : Known) → In k (forget f ks) → (k.frame ≡ f → ⊥) × In k ks
-in_forget [] f k h = absurd h
-in_forget (l ∷ ls) f k h = ⊎_elim
-    (λ (e : l.frame ≡ f).
-    let r = in_forget ls f k (subst (λ (x : List Known). In k x) (cond-true (eqb l.frame f) (forget f ls) (l ∷ forget f ls) (eq-eqb l.frame f e)) h) in
-    (r.0, inr r.1))
-    (λ (away : l.frame ≡ f → ⊥).
-    ⊎_elim
-    (λ (is : k ≡ l). ((λ x. away (sym (ap (λ (y : Known). y.frame) is) ∙ x)), inl is))
-    (λ r. let q = in_forget ls f k r in (q.0, inr q.1))
-    (subst (λ (x : List Known). In k x) (cond-false (eqb l.frame f) (forget f ls) (l ∷ forget f ls) (ne_eqb l.frame f away)) h))
-    (cases_eq l.frame f)
 
 -- reach stays where the frame has the targets that it had
 pub news_within : (k : Known) (ks : List Known) (n : ℕ) (fs : List ℕ) → targets_of k ≡ targets_of (known_of ks k.frame) → within (k ∷ forget k.frame ks) n fs ≡ within ks n fs

@@ -1,13 +1,15 @@
 -- What the rule says of one view.
-use Rattle.std.proofs.Common.{◌≡◌, ℕ, ◌+◌, ◌%◌, ◌<◌, ◌≤◌, ◌≢◌, ◌⊎◌, List, ◌++◌, length, get_or, refl, sym, ap, subst, ◌∙◌, inl, inr, ⊎_elim, arith}
+use Rattle.std.proofs.Common.{◌≡◌, ℕ, ◌+◌, ◌%◌, ◌<◌, ◌≤◌, ◌≢◌, List, ◌++◌, sym, ap, subst, ◌∙◌, ⊎_elim, arith}
 use Rattle.std.proofs.lemmas.Bool.{cases_eq}
+use Rattle.frame_model.specs.Words.{depth}
 use Rattle.frame_model.specs.declared.view.View.{View}
 use Rattle.frame_model.specs.Words.{Frames, kind_number, kind_at, IsMeta, IsEntryAt, target}
-use Rattle.frame_model.specs.Views.{Has, known_of, kind_of, words_of, word_of, targets_of, within, reach, IsSound, IsEntryOf}
-use Rattle.frame_model.specs.Rule.{At, Agrees, Descends, FrameRule}
+use Rattle.frame_model.specs.Views.{Has, known_of, kind_of, words_of, word_of, targets_of, within, reach, IsSound}
+use Rattle.frame_model.specs.Rule.{At, Descends, FrameRule}
+use Rattle.frame_model.proofs.Owners.{child_link, one_holder}
 use Rattle.frame_model.proofs.Reach.{has_by_kind, by_kind_has, has_targets, targets_has, within_front, within_closed, within_empty, kind_number_most}
 
-kind_most : (meta : ℕ) → IsMeta meta → meta % 8 ≤ 3
+pub kind_most : (meta : ℕ) → IsMeta meta → meta % 8 ≤ 3
 kind_most meta h = omega arith
 
 module _ (n : ℕ) (m : Frames) (views : List View) (rule : FrameRule n m views) (id : ℕ) (v : View) (at : At views id v) where
@@ -34,17 +36,17 @@ module _ (n : ℕ) (m : Frames) (views : List View) (rule : FrameRule n m views)
   pub closed : (f x : ℕ) → Has f (reach v) → Has x (targets_of (known_of v.known f)) → Has x (reach v)
   closed f x h t =
       let a = rule.agrees id v at in
-      within_closed (λ (y : ℕ). kind_at m y) v.known 3 (v.owned ++ v.references)
-      (λ g hg. kind_most (m.meta g) (rule.kinds g (a.inside g (within_front v.known 3 (v.owned ++ v.references) g hg))))
+      within_closed (λ (y : ℕ). kind_at m y) v.known depth (v.owned ++ v.references)
+      (λ g hg. kind_most (m.meta g) (rule.kinds g (a.inside g (within_front v.known depth (v.owned ++ v.references) g hg))))
       falls
       f x h t
 
   -- a view that reaches a frame has a stake
-  has_stake : (f : ℕ) → Has f (reach v) → 0 < v.stake
+  pub has_stake : (f : ℕ) → Has f (reach v) → 0 < v.stake
   has_stake f h = ⊎_elim
       (λ (none : v.stake ≡ 0).
       let s = (rule.stakes.each id v at).spent none in
-      absurd (within_empty v.known 3 f (subst (λ (p : List ℕ × List ℕ). Has f (within v.known 3 (p.0 ++ p.1))) (λ k. (s.0 k, s.1 k)) h)))
+      absurd (within_empty v.known depth f (subst (λ (p : List ℕ × List ℕ). Has f (within v.known depth (p.0 ++ p.1))) (λ k. (s.0 k, s.1 k)) h)))
       (λ (some : v.stake ≡ 0 → ⊥). omega arith)
       (cases_eq v.stake 0)
 
@@ -67,7 +69,12 @@ module _ (n : ℕ) (m : Frames) (views : List View) (rule : FrameRule n m views)
               form = subst (λ (p : ℕ × ℕ). IsEntryAt p.0 p.1) (λ k. (a.kind f h k, w k)) d.form;
               below = omega arith;
             };
-        newest = a.newest;
+        walled = λ f g o r away t.
+            let l = child_link n m views rule id v at g f r t in
+            away (one_holder n m views rule id v at f g l.0 o r l.1 l.2).1;
+        single = λ f g o r t.
+            let l = child_link n m views rule id v at g f r t in
+            (one_holder n m views rule id v at f g l.0 o r l.1 l.2).0;
         once = rule.owned.once id v at;
         staked = rule.stakes.each id v at;
       }
@@ -75,7 +82,7 @@ module _ (n : ℕ) (m : Frames) (views : List View) (rule : FrameRule n m views)
 -- what a link names is reached too, as the view itself tells
 pub sound_closed : (v : View) → IsSound v → (f x : ℕ) → Has f (reach v) → Has x (targets_of (known_of v.known f)) → Has x (reach v)
 sound_closed v is =
-    within_closed (λ (y : ℕ). kind_number (kind_of v y)) v.known 3 (v.owned ++ v.references)
+    within_closed (λ (y : ℕ). kind_number (kind_of v y)) v.known depth (v.owned ++ v.references)
     (λ g hg. let a = kind_number_most (kind_of v g) in omega arith)
     (λ f x h t.
     let k = has_by_kind (kind_of v f) (words_of v f) x t in

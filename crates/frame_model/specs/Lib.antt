@@ -1,3 +1,4 @@
+pub mod Holdings
 pub mod Rule
 pub mod Views
 pub mod Words

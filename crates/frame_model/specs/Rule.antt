@@ -1,19 +1,22 @@
 -- The rule of shared frames, over the words of the frames and the views of all holders.
-use Rattle.std.specs.Prelude.{◌≡◌, ℕ, zero, suc, ◌+◌, ◌<◌, ◌≤◌, ◌⊎◌, Bool, true}
+use Rattle.std.specs.Prelude.{◌≡◌, ℕ, ◌+◌, ◌<◌, ◌≤◌, ◌⊎◌, true}
 use Rattle.std.specs.Prelude.{List, [], ◌∷◌, length}
 use mathlib.Core.Option.{some}
 use lib.ListN.{get_elem?}
-use Rattle.frame_model.specs.declared.view.Known.{Known}
 use Rattle.frame_model.specs.declared.view.View.{View}
 use Rattle.frame_model.specs.Words.{Frames, kind_number, kind_at, count_at, IsMeta, target}
 use Rattle.frame_model.specs.Words.{IsEntryAt, names, links}
-use Rattle.frame_model.specs.Views.{Has, times, kind_of, words_of, word_of, reach, IsStaked, In}
-use Rattle.frame_model.specs.Views.{IsNewest}
+use Rattle.frame_model.specs.Views.{Has, times, kind_of, words_of, word_of, reach, IsStaked}
 use Rattle.frame_model.specs.Views.{whole_stake}
 
 -- the holder of this number has the view v
 abbrev pub At : List View → ℕ → View → Type 0
 At views id v = get_elem? views id ≡ some v
+
+-- no view but that of this number reaches f
+abbrev pub NoOtherReaches : List View → ℕ → ℕ → Type 0
+NoOtherReaches views id f =
+    (other : ℕ) (w : View) → At views other w → (id ≡ other → ⊥) → Has f (reach w) → ⊥
 
 -- a number of each view, added up
 abbrev pub total : (View → ℕ) → List View → ℕ
@@ -27,7 +30,6 @@ pub record Agrees (n : ℕ) (m : Frames) (v : View) : Type 0 where
   pub whole : (f : ℕ) → Has f (reach v) → length (words_of v f) ≡ 512
   pub kind : (f : ℕ) → Has f (reach v) → kind_at m f ≡ kind_number (kind_of v f)
   pub word : (f i : ℕ) → Has f (reach v) → i < 512 → m.word f i ≡ word_of v f i
-  pub newest : (k : Known) → In k v.known → Has k.frame (reach v) → IsNewest v k
 
 -- of a table of v's own, an entry names f
 pub record IsNamedByOwn (m : Frames) (v : View) (f : ℕ) : Type 0 where

@@ -1,12 +1,12 @@
 -- What a holder has and knows: what a view says of a frame, and which frames it reaches.
-use Rattle.std.specs.Prelude.{◌≡◌, ℕ, zero, suc, ◌+◌, ◌*◌, ◌-◌, ◌<◌, ◌≤◌, ◌==◌, ◌⊎◌, ◌||◌, ◌^◌}
+use Rattle.std.specs.Prelude.{◌≡◌, ℕ, zero, suc, ◌+◌, ◌<◌, ◌≤◌, ◌==◌, ◌⊎◌, ◌||◌, ◌^◌}
 use Rattle.std.specs.Prelude.{Bool, true, false, if◌then◌else◌, List, [], ◌∷◌, ◌++◌, length}
 use Rattle.std.specs.Prelude.{replicate, slice_index}
 use Rattle.frame_model.specs.declared.kind.Kind.{Kind}
 use Rattle.frame_model.specs.declared.kind.Kind.TheVariants.{Data, Leaf, Mid, Root}
 use Rattle.frame_model.specs.declared.view.Known.{Known}
 use Rattle.frame_model.specs.declared.view.View.{View}
-use Rattle.frame_model.specs.Words.{kind_number, target, IsEntryAt}
+use Rattle.frame_model.specs.Words.{kind_number, depth, target, IsEntryAt}
 
 -- x stands in the list
 abbrev pub Has : ℕ → List ℕ → Type 0
@@ -65,20 +65,10 @@ words_of v f = (known_of v.known f).words
 abbrev pub word_of : View → ℕ → ℕ → ℕ
 word_of v f i = slice_index (words_of v f) i
 
--- k is among these
-abbrev pub In : Known → List Known → Type 0
-In k [] = ⊥
-In k (l ∷ ls) = (k ≡ l) ⊎ In k ls
-
 -- all that isn't known of f
 abbrev pub forget : ℕ → List Known → List Known
 forget f [] = []
 forget f (k ∷ ks) = if k.frame == f then forget f ks else k ∷ forget f ks
-
--- what is known of k's frame is k
-pub record IsNewest (v : View) (k : Known) : Type 0 where
-  pub kind : kind_number (kind_of v k.frame) ≡ kind_number k.kind
-  pub words : words_of v k.frame ≡ k.words
 
 -- ---- reach
 
@@ -97,6 +87,10 @@ targets_by_kind Root ws = targets ws
 abbrev pub targets_of : Known → List ℕ
 targets_of k = targets_by_kind k.kind k.words
 
+-- g is a table, and an entry of it names f, as v knows it
+abbrev pub Names : View → ℕ → ℕ → Type 0
+Names v g f = Has f (targets_of (known_of v.known g))
+
 -- the frames one link down
 abbrev pub children : List Known → List ℕ → List ℕ
 children ks [] = []
@@ -107,15 +101,24 @@ unfoldable pub within : List Known → ℕ → List ℕ → List ℕ
 within ks zero fs = fs
 within ks (suc n) fs = fs ++ within ks n (children ks fs)
 
--- the frames that a view owns or refers to, and those at most three links down
+-- the frames that a view owns or refers to, and those at most `depth` links down
 abbrev pub reach : View → List ℕ
-reach v = within v.known 3 (v.owned ++ v.references)
+reach v = within v.known depth (v.owned ++ v.references)
 
 -- f is owned, and no reference and no entry of an owned table names it: its count is 0
 pub record IsLoose (v : View) (f : ℕ) : Type 0 where
   pub owned : Has f v.owned
   pub unreferred : Has f v.references → ⊥
   pub unnamed : Has f (children v.known v.owned) → ⊥
+
+-- no reference, and of what is owned each frame is of data
+pub record OwnsDataAlone (v : View) : Type 0 where
+  pub unreferring : v.references ≡ []
+  pub kinds : (f : ℕ) → Has f v.owned → kind_of v f ≡ Data
+
+-- v owns every frame, each of count 0
+abbrev pub OwnsAll : View → Type 0
+OwnsAll v = (f : ℕ) → f < v.frames → IsLoose v f
 
 -- ---- which views there are
 
@@ -139,8 +142,12 @@ pub record IsSound (v : View) : Type 0 where
   pub whole : (f : ℕ) → Has f (reach v) → length (words_of v f) ≡ 512
   pub entries : (f i : ℕ) → Has f (reach v) → i < 512 → 0 < kind_number (kind_of v f)
       → (word_of v f i ≡ 0 → ⊥) → IsEntryOf v f i
-  -- it knows one thing of a frame
-  pub newest : (k : Known) → In k v.known → Has k.frame (reach v) → IsNewest v k
+  -- no table that it reaches and doesn't own names a frame that it owns
+  pub walled : (f g : ℕ) → Has f v.owned → Has g (reach v) → (Has g v.owned → ⊥)
+      → Names v g f → ⊥
+  -- a frame that it owns, and that an entry names, has no reference
+  pub single : (f g : ℕ) → Has f v.owned → Has g (reach v) → Names v g f
+      → Has f v.references → ⊥
   -- it has a frame once
   pub once : (f : ℕ) → times f v.owned ≤ 1
   pub staked : IsStaked v

@@ -36,6 +36,10 @@ kind_number Leaf = 1
 kind_number Mid = 2
 kind_number Root = 3
 
+-- a root's number: so many links down, tables end
+abbrev pub depth : ℕ
+depth = kind_number Root
+
 abbrev pub kind_at : Frames → ℕ → ℕ
 kind_at m f = m.meta f % 8
 

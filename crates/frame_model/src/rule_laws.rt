@@ -4,8 +4,9 @@ ghost use Rattle.std.specs.Prelude.{◌≡◌, ℕ, ◌+◌, ◌*◌, ◌^◌, �
 ghost use Rattle.frame_model.specs.declared.view.View.{View};
 ghost use Rattle.frame_model.specs.Words.{Frames, frames_in, kind_at, kind_number, count_at};
 ghost use Rattle.frame_model.specs.Views.{Has, kind_of, known_of, word_of, targets_of, reach};
-ghost use Rattle.frame_model.specs.Views.{IsLoose, IsSound, first_view};
-ghost use Rattle.frame_model.specs.Rule.{At, most_frames, FrameRule};
+ghost use Rattle.frame_model.specs.Views.{IsLoose, IsSound, OwnsDataAlone, first_view};
+ghost use Rattle.frame_model.specs.Views.{whole_stake};
+ghost use Rattle.frame_model.specs.Rule.{At, NoOtherReaches, most_frames, FrameRule};
 
 /// A frame that one view owns is in no other view's reach.
 pub fn owned_frames_are_apart()
@@ -32,6 +33,31 @@ pub fn views_tell_the_words()
     ensures words { (n : ℕ) (m : Frames) (views : List View) → FrameRule n m views
         → (id : ℕ) (v : View) → At views id v → (f i : ℕ) → Has f (reach v) → i < 512
         → m.word f i ≡ word_of v f i }
+{}
+
+/// Each frame is in the reach of a view, which has a stake.
+pub fn every_frame_is_reached()
+    ensures { (n : ℕ) (m : Frames) (views : List View) → FrameRule n m views
+        → (f : ℕ) → f < n
+        → (id : ℕ) × (v : View) × At views id v × (0 < v.stake) × Has f (reach v) }
+{}
+
+/// A view that owns data alone and refers to nothing owns exactly the frames that no other view
+/// reaches.
+pub fn lone_owners_have_what_no_other_reaches()
+    ensures own { (n : ℕ) (m : Frames) (views : List View) → FrameRule n m views
+        → (id : ℕ) (v : View) → At views id v → OwnsDataAlone v
+        → (f : ℕ) → Has f v.owned → (f < n) × NoOtherReaches views id f }
+    ensures rest { (n : ℕ) (m : Frames) (views : List View) → FrameRule n m views
+        → (id : ℕ) (v : View) → At views id v → OwnsDataAlone v
+        → (f : ℕ) → f < n → NoOtherReaches views id f → Has f v.owned }
+{}
+
+/// Such a view with the whole stake owns every frame, each of data and of count 0.
+pub fn whole_stakes_own_all()
+    ensures { (n : ℕ) (m : Frames) (views : List View) → FrameRule n m views
+        → (id : ℕ) (v : View) → At views id v → OwnsDataAlone v → v.stake ≡ whole_stake
+        → (f : ℕ) → f < n → IsLoose v f × (kind_at m f ≡ 0) × (count_at m f ≡ 0) }
 {}
 
 /// A count has room for one more: it stays below 2^56, and its meta word below 2^64.

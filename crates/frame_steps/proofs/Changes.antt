@@ -3,6 +3,7 @@
 use Rattle.std.proofs.Common.{◌≡◌, ℕ, ◌+◌, ◌<◌, ◌≤◌, ◌≢◌, ◌⊎◌, List, length, set, refl, sym, ap, subst, ◌∙◌, inl, inr, ⊎_elim, arith}
 use Rattle.atomic_table.proofs.Lists.{at_set, set_here, set_else}
 use Rattle.std.proofs.lemmas.Bool.{cases_eq}
+use Rattle.frame_model.specs.Words.{depth}
 use Rattle.frame_model.specs.declared.view.View.{View}
 use Rattle.frame_model.specs.Words.{Frames, kind_at, count_at, IsMeta, IsEntryAt, target, links}
 use Rattle.frame_model.specs.Views.{Has, times, within, reach, IsStaked, IsSound}
@@ -14,9 +15,9 @@ use Rattle.frame_model.proofs.Rules.{sound_closed}
 use Rattle.frame_words.proofs.News.{at_length, one_at}
 
 -- what a sound view would reach from frames that it reaches, it reaches
-pub reached_from : (v : View) → IsSound v → (fs : List ℕ) → ((f : ℕ) → Has f fs → Has f (reach v)) → (f : ℕ) → Has f (within v.known 3 fs) → Has f (reach v)
+pub reached_from : (v : View) → IsSound v → (fs : List ℕ) → ((f : ℕ) → Has f fs → Has f (reach v)) → (f : ℕ) → Has f (within v.known depth fs) → Has f (reach v)
 reached_from v is fs first f h =
-    within_inside (λ (x : ℕ). Has x (reach v)) v.known 3 fs first (λ x y hx t. sound_closed v is x y hx t) f h
+    within_inside (λ (x : ℕ). Has x (reach v)) v.known depth fs first (λ x y hx t. sound_closed v is x y hx t) f h
 
 -- an entry that stands as it did, where no kind changed
 pub descends_kept : (n : ℕ) (l m : Frames) (g i : ℕ) → ((f : ℕ) → kind_at m f ≡ kind_at l f) → m.word g i ≡ l.word g i → Descends n l g i → Descends n m g i
@@ -68,7 +69,6 @@ module _ (n : ℕ) (l m : Frames) (views : List View) (rule : FrameRule n l view
         whole = a.whole;
         kind = λ g h. change.kinds g ∙ a.kind g h;
         word = λ g i h lt. change.words g i (not_owned j u there ne g h) lt ∙ a.word g i h lt;
-        newest = a.newest;
       }
 
   -- what another view owns isn't reached

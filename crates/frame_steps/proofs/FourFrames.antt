@@ -1,5 +1,6 @@
 -- What a test's calls require of its four frames.
 use Rattle.std.proofs.Common.{ℕ, ◌<◌, length, refl, inl, inr, arith}
+use Rattle.frame_model.specs.Words.{depth}
 use Rattle.frame_model.specs.declared.view.View.{View}
 use Rattle.frame_model.specs.Words.{kind_number}
 use Rattle.frame_model.specs.Views.{Has, blank_words, kind_of, within, reach, numbers_below, first_view, IsLoose}
@@ -80,4 +81,4 @@ pub leaf_few : HasFew leaf_view
 leaf_few = omega arith
 
 pub owned_reached : (v : View) (f : ℕ) → Has f v.owned → Has f (reach v)
-owned_reached v f h = within_front v.known 3 _ f (has_left f v.owned v.references h)
+owned_reached v f h = within_front v.known depth _ f (has_left f v.owned v.references h)

@@ -1,6 +1,7 @@
 -- An entry that takes another's place keeps the rule.
 use Rattle.std.proofs.Common.{◌≡◌, ℕ, ◌+◌, ◌*◌, ◌/◌, ◌%◌, ◌<◌, ◌≤◌, ◌≢◌, ◌⊎◌, List, [], ◌∷◌, ◌++◌, length, get_or, set, refl, sym, ap, subst, ◌∙◌, inl, inr, ⊎_elim, arith, length-set, length-append, get_or-set_other, get_or-set_same}
 use Rattle.std.proofs.lemmas.Bool.{cases_eq}
+use Rattle.frame_model.specs.Words.{depth}
 use Rattle.frame_model.specs.declared.view.Known.{Known}
 use Rattle.frame_model.specs.declared.view.View.{View}
 use Rattle.frame_model.specs.Words.{Frames, frames_in, word_place, kind_number, kind_at, count_at, IsEntryAt, names, target, links}
@@ -9,7 +10,7 @@ use Rattle.frame_model.specs.Rule.{At, Agrees, IsNamedByOwn, Descends, FrameRule
 use Rattle.frame_model.proofs.Counts.{names_same, names_true}
 use Rattle.frame_model.proofs.Owners.{named, owned_reached}
 use Rattle.frame_model.proofs.Parts.{has_less, less_has, length_less}
-use Rattle.frame_model.proofs.Reach.{has_left, has_right, has_append, has_by_kind, by_kind_has, has_targets, targets_has, known_here, known_else, forget_else, in_forget, within_inside}
+use Rattle.frame_model.proofs.Reach.{has_left, has_right, has_append, has_by_kind, by_kind_has, has_targets, targets_has, known_here, known_else, forget_else, within_inside}
 use Rattle.frame_model.proofs.Rules.{sound, sound_closed}
 use Rattle.frame_words.proofs.Places as places
 use Rattle.frame_words.proofs.Splits.{root_reached}
@@ -149,7 +150,7 @@ module _ (n : ℕ) (ws : List ℕ) (views : List View) (rule : FrameRule n (fram
       (cases_eq g f)
 
   reached : (g : ℕ) → Has g (reach w) → Has g (reach v)
-  reached g h = within_inside (λ (y : ℕ). Has y (reach v)) w.known 3 (w.owned ++ w.references) firsts along g h
+  reached g h = within_inside (λ (y : ℕ). Has y (reach v)) w.known depth (w.owned ++ w.references) firsts along g h
 
   agrees : Agrees n m w
   unfolding w entered page
@@ -170,16 +171,6 @@ module _ (n : ℕ) (ws : List ℕ) (views : List View) (rule : FrameRule n (fram
             (λ (e : g ≡ f). ap (λ (y : ℕ). m.word y j) e ∙ page_word j k ∙ sym (ap (λ (q : Known). get_or q.words j 0) (page_here g e)))
             (λ (ne : g ≡ f → ⊥). same_word g j (λ t. ne t.0) k ∙ a.word g j (reached g h) k ∙ sym (ap (λ (q : Known). get_or q.words j 0) (page_else g ne)))
             (cases_eq g f);
-        newest = λ k q h. ⊎_elim
-            (λ (e : k ≡ record { frame = f; kind = kind_of v f; words = set (words_of v f) i x }).
-            let there = page_here k.frame (ap (λ (y : Known). y.frame) e) in
-            record { kind = ap (λ (y : Known). kind_number y.kind) (there ∙ sym e); words = ap (λ (y : Known). y.words) (there ∙ sym e) })
-            (λ r.
-            let old = in_forget v.known f k r in
-            let there = page_else k.frame old.0 in
-            let was_newest = a.newest k old.1 (reached k.frame h) in
-            record { kind = ap (λ (y : Known). kind_number y.kind) there ∙ was_newest.kind; words = ap (λ (y : Known). y.words) there ∙ was_newest.words })
-            q;
       }
 
   -- ---- counts and holders

@@ -1,12 +1,12 @@
 -- One reference more, and one less, keep the rule.
-use Rattle.std.proofs.Common.{◌≡◌, ℕ, zero, suc, ◌+◌, ◌*◌, ◌/◌, ◌%◌, ◌<◌, ◌≤◌, ◌≢◌, ◌⊎◌, true, false, List, [], ◌∷◌, ◌++◌, length, set, refl, sym, ap, subst, ◌∙◌, inl, inr, ⊎_elim, arith}
-use mathlib.Core.Option.{some-ne-none, some-injective}
+use Rattle.std.proofs.Common.{◌≡◌, ℕ, ◌+◌, ◌*◌, ◌/◌, ◌%◌, ◌<◌, ◌≤◌, ◌≢◌, ◌⊎◌, true, false, List, [], ◌∷◌, ◌++◌, length, set, refl, sym, ap, subst, ◌∙◌, inl, inr, ⊎_elim, arith}
 use Rattle.std.proofs.lemmas.Bool.{cases_eq, cases_Bool, and_parts, and_from, or_cases, or_left, or_right, cond-true, cond-false}
+use Rattle.frame_model.specs.Words.{depth}
 use Rattle.frame_model.specs.declared.view.View.{View}
 use Rattle.frame_model.specs.Words.{Frames, frames_in, meta_place, kind_at, count_at, IsMeta, names, links}
 use Rattle.frame_model.specs.Views.{Has, has, times, known_of, targets_of, children, within, reach, part_of, without, less_one, IsSound, IsLoose}
 use Rattle.frame_model.specs.Rule.{At, total, Agrees, IsNamedByOwn, IsHeldOnce, FrameRule}
-use Rattle.frame_model.proofs.Counts.{names_same, links_same, links_some, total_at}
+use Rattle.frame_model.proofs.Counts.{names_same, links_same, links_some, total_at, total_two}
 use Rattle.frame_model.proofs.Owners.{child_link, link_child, loose_count, no_link, owned_reached}
 use Rattle.frame_model.proofs.Parts.{has_true, has_false, true_has, has_without, without_has, times_parts, has_less, less_has, times_less, length_less}
 use Rattle.frame_model.proofs.Reach.{has_append, has_children, times_here, times_else, absent, present, within_empty, within_front, within_parent}
@@ -16,22 +16,6 @@ use Rattle.frame_words.proofs.Splits.{root_reached, tree_reached, tree_closed}
 use Rattle.frame_words.specs.Steps.{tree_of}
 use Rattle.frame_steps.specs.Counted.{owning, is_counted, gives_up, IsNamedTwice, referred_twice, linked}
 use Rattle.frame_steps.proofs.Changes.{reached_from, descends_kept, IsChange}
-
--- two views' numbers are at most the total
-total_two : (h : View → ℕ) (views : List View) (id other : ℕ) (v w : View) → At views id v → At views other w → (id ≡ other → ⊥) → h v + h w ≤ total h views
-total_two h [] id other v w at there ne = absurd (some-ne-none v (sym at))
-total_two h (x ∷ xs) zero zero v w at there ne = absurd (ne refl)
-total_two h (x ∷ xs) zero (suc other) v w at there ne =
-    let is : h x ≡ h v = ap h (some-injective x v at) in
-    let r = total_at h xs other w there in
-    omega arith
-total_two h (x ∷ xs) (suc id) zero v w at there ne =
-    let is : h x ≡ h w = ap h (some-injective x w there) in
-    let r = total_at h xs id v at in
-    omega arith
-total_two h (x ∷ xs) (suc id) (suc other) v w at there ne =
-    let r = total_two h xs id other v w at there (λ e. ne (ap suc e)) in
-    omega arith
 
 -- ---- owning
 
@@ -160,7 +144,7 @@ module _ (n : ℕ) (ws : List ℕ) (views : List View) (rule : FrameRule n (fram
   live : v.stake ≡ 0 → ⊥
   live z =
       let s = (rule.stakes.each id v at).spent z in
-      within_empty v.known 3 f (subst (λ (p : List ℕ × List ℕ). Has f (within v.known 3 (p.0 ++ p.1))) (λ k. (s.0 k, s.1 k)) r)
+      within_empty v.known depth f (subst (λ (p : List ℕ × List ℕ). Has f (within v.known depth (p.0 ++ p.1))) (λ k. (s.0 k, s.1 k)) r)
 
   named : (owned references : List ℕ) (g : ℕ) → ((x : ℕ) → Has x v.owned → Has x owned) → IsNamedByOwn l v g → IsNamedByOwn m (part_of v owned references v.stake) g
   named owned references g os b = record {
@@ -180,7 +164,6 @@ module _ (n : ℕ) (ws : List ℕ) (views : List View) (rule : FrameRule n (fram
         whole = λ g h. a.whole g (back g h);
         kind = λ g h. kinds g ∙ a.kind g (back g h);
         word = λ g i h lt. word g i lt ∙ a.word g i (back g h) lt;
-        newest = λ k i h. let e = a.newest k i (back k.frame h) in record { kind = e.kind; words = e.words };
       }
 
   -- ---- one more
@@ -247,7 +230,7 @@ module _ (n : ℕ) (ws : List ℕ) (views : List View) (rule : FrameRule n (fram
     pub give_up_change : (count_at l f ≡ 0 → ⊥) → IsChange n l m views id v (part_of v (without (tree_of v f) v.owned) (f ∷ v.references) v.stake)
     give_up_change counted =
         let tree = tree_of v f in
-        let root_in : Has f tree = within_front v.known 3 (f ∷ []) f (inl refl) in
+        let root_in : Has f tree = within_front v.known depth (f ∷ []) f (inl refl) in
         more_change (without tree v.owned)
         (λ g o. (has_without tree v.owned g o).1)
         (λ g o z. without_has tree v.owned g
@@ -257,7 +240,7 @@ module _ (n : ℕ) (ws : List ℕ) (views : List View) (rule : FrameRule n (fram
         let rh = tree_reached v is f r p.0 p.1 in
         let k = child_link n l views rule id v at p.0 g rh p.2 in
         absurd (no_link n l views rule g p.0 k.0 ((rule.agrees id v at).inside g (root_reached v is g (inl o))) ((rule.agrees id v at).inside p.0 rh) k.1 z k.2))
-        (within_parent v.known 3 (f ∷ []) g t)) o)
+        (within_parent v.known depth (f ∷ []) g t)) o)
         (λ g. let a = times_parts tree g v.owned in let b = rule.owned.once id v at g in omega arith)
         (λ g o some_count.
         let q = has_without tree v.owned g o in
@@ -301,7 +284,7 @@ module _ (n : ℕ) (ws : List ℕ) (views : List View) (rule : FrameRule n (fram
         let some_link = links_some l f n t.0 k.0 ((rule.agrees j u there).inside t.0 t.1) k.1 k.2 in
         let all = total_at (λ x. times f x.references) views id v at in
         absurd (omega arith))
-        (within_parent u.known 3 (u.owned ++ u.references) f q)
+        (within_parent u.known depth (u.owned ++ u.references) f q)
 
     -- an owned frame with a reference has count 1
     pub own_once : Has f v.owned → count_at l f ≡ 1

@@ -1,12 +1,12 @@
 //! What each kind of step on entries and counts tells.
 
 use atomic_table::Play;
-use frame_words::View;
+use frame_words::Holding;
 
 /// A store of an entry of an owned table.
 pub struct Enter;
 
-impl Play<(), View> for Enter {
+impl Play<(), Holding> for Enter {
     ghost use Rattle.frame_steps.specs.Plays.{DidEnter};
 
     ghost then = { DidEnter };
@@ -15,7 +15,7 @@ impl Play<(), View> for Enter {
 /// One more in a count.
 pub struct Gain;
 
-impl Play<(), View> for Gain {
+impl Play<(), Holding> for Gain {
     ghost use Rattle.frame_steps.specs.Plays.{DidGain};
 
     ghost then = { DidGain };
@@ -24,7 +24,7 @@ impl Play<(), View> for Gain {
 /// One less in a count.
 pub struct Lose;
 
-impl Play<(), View> for Lose {
+impl Play<(), Holding> for Lose {
     ghost use Rattle.frame_steps.specs.Plays.{DidLose};
 
     ghost then = { DidLose };

@@ -1,8 +1,7 @@
 -- What a test's calls require of its four frames.
-use Rattle.std.proofs.Common.{◌≡◌, ℕ, zero, suc, ◌+◌, ◌<◌, ◌≤◌, length, refl, inl, inr, ⊎_elim, arith}
+use Rattle.std.proofs.Common.{◌≡◌, ℕ, ◌+◌, ◌≤◌, length, refl, inl, ap, ⊎_elim, arith}
 use Rattle.frame_model.specs.declared.kind.Kind.TheVariants.{Data}
-use Rattle.frame_model.specs.Views.{Has, kind_of, within, reach, numbers_below, first_view}
-use Rattle.frame_words.specs.Holders.{OwnsAll}
+use Rattle.frame_model.specs.Views.{Has, kind_of, within, reach, numbers_below, first_view, OwnsDataAlone, whole_stake}
 use Rattle.frame_words.specs.Rows.{third, kept_view, given_view, written_view}
 use Rattle.frame_words.specs.Steps.{pile_of, kept_of, given_of, IsThere, joined}
 
@@ -29,18 +28,22 @@ pub few : length kept_view.references + length written_view.references ≤ 16
 unfolding kept_of given_of
 few = omega arith
 
-all_owned : (f : ℕ) → f < 4 → Has f (joined kept_view written_view).owned
-unfolding joined kept_of given_of pile_of numbers_below
-all_owned zero lt = inr (inr (inl refl))
-all_owned (suc zero) lt = inr (inl refl)
-all_owned (suc (suc zero)) lt = inl refl
-all_owned (suc (suc (suc zero))) lt = inr (inr (inr (inl refl)))
-all_owned (suc (suc (suc (suc f)))) lt = absurd (omega arith)
-
-pub all : OwnsAll (joined kept_view written_view)
+pub alone : OwnsDataAlone (joined kept_view written_view)
 unfolding joined kept_of given_of pile_of numbers_below within
-all f lt = record {
-  owned = all_owned f lt;
-  unreferred = λ r. r;
-  unnamed = λ r. r;
+alone = record {
+  unreferring = refl;
+  kinds = λ f h. ⊎_elim
+      (λ (e : f ≡ 2). ap (λ (x : ℕ). kind_of (joined kept_view written_view) x) e)
+      (λ h1. ⊎_elim
+      (λ (e : f ≡ 1). ap (λ (x : ℕ). kind_of (joined kept_view written_view) x) e)
+      (λ h2. ⊎_elim
+      (λ (e : f ≡ 0). ap (λ (x : ℕ). kind_of (joined kept_view written_view) x) e)
+      (λ h3. ⊎_elim
+      (λ (e : f ≡ 3). ap (λ (x : ℕ). kind_of (joined kept_view written_view) x) e)
+      (λ none. absurd none)
+      h3) h2) h1) h;
 }
+
+pub whole : (joined kept_view written_view).stake ≡ whole_stake
+unfolding joined kept_of given_of
+whole = refl

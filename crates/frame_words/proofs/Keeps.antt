@@ -4,21 +4,25 @@ use mathlib.Core.Option.{some, none}
 use lib.ListN.{get_elem?}
 use Rattle.std.proofs.lemmas.Bool.{cases_eq}
 use Rattle.atomic_table.specs.Table.{State, step, keeps, stepped, Allows}
-use Rattle.atomic_table.proofs.Lists.{set_again, set_here}
+use Rattle.atomic_table.proofs.Lists.{set_again}
 use Rattle.frame_model.specs.declared.kind.Kind.{Kind}
 use Rattle.frame_model.specs.declared.kind.Kind.TheVariants.{Data, Leaf, Mid, Root}
+use Rattle.frame_model.specs.declared.holding.Holding.{Holding}
 use Rattle.frame_model.specs.declared.view.View.{View}
+use Rattle.frame_model.specs.Holdings.{with_view, views_of}
 use Rattle.frame_model.specs.Words.{Frames, frames_in, meta_place, word_place, kind_number, kind_at, count_at, IsMeta, IsEntryAt, names, target}
 use Rattle.frame_model.specs.Views.{Has, kind_of, words_of, word_of, targets, targets_by_kind, reach, IsLoose}
 use Rattle.frame_model.specs.Rule.{At, Descends, FrameRule}
+use Rattle.frame_model.proofs.Covers.{whole_owns}
 use Rattle.frame_model.proofs.Counts.{names_data, names_zero, names_same, names_true, links_some}
 use Rattle.frame_model.proofs.Reach.{targets_zero, by_kind_none, kind_number_most}
 use Rattle.frame_model.proofs.Owners.{owned_reached, loose_count}
 use Rattle.frame_model.proofs.Rules.{sound}
 use Rattle.frame_words.specs.Steps.{put, dressed, IsClear}
-use Rattle.frame_words.specs.Plays.{Kept, Mine, Looked, LookedAgain, LookedAtMeta, DidPut, DidDress}
+use Rattle.frame_words.specs.Plays.{Kept, Mine, Looked, LookedAgain, LookedWhole, LookedAtMeta, DidPut, DidDress}
 use Rattle.frame_words.proofs.Places as places
-use Rattle.frame_words.proofs.News.{IsNews, news_kept, at_length}
+use Rattle.frame_words.proofs.Seats.{seen_at, rule_set, now_sound}
+use Rattle.frame_words.proofs.News.{IsNews, news_kept}
 
 -- a word that is stored as it was
 same_words : (ws : List ℕ) (i : ℕ) → set ws i (get_or ws i 0) ≡ ws
@@ -27,21 +31,22 @@ same_words (x ∷ xs) zero = refl
 same_words (x ∷ xs) (suc i) = ap (λ ys. x ∷ ys) (same_words xs i)
 
 -- a load leaves the rule as it was
-stays : (n : ℕ) (s : State (Unit {0}) View) (id : ℕ) (me : Mine) (i : ℕ) → Kept n s → get_elem? s.views id ≡ some me.0
+stays : (n : ℕ) (s : State (Unit {0}) Holding) (id : ℕ) (me : Mine) (i : ℕ) → Kept n s → get_elem? s.views id ≡ some me.0
     → Kept n (stepped s i (get_or s.words i 0) id me.1 me.0 keeps)
 stays n s id me i kept at =
     let ws : set s.words i (get_or s.words i 0) ≡ s.words = same_words s.words i in
     let vs : set s.views id me.0 ≡ s.views = set_again s.views id me.0 at in
     record {
       size = ap length ws ∙ kept.size;
-      rule = subst (λ (p : List ℕ × List View). FrameRule n (frames_in p.0) p.1) (λ k. (sym ws k, sym vs k)) kept.rule;
+      rule = subst (λ (p : List ℕ × List Holding). FrameRule n (frames_in p.0) (views_of p.1)) (λ k. (sym ws k, sym vs k)) kept.rule;
     }
 
 module _ (n : ℕ) (slots id : ℕ) (me : Mine) where
   -- ---- peek
 
-  pub looks : (f i : ℕ) → Has f (reach me.0) → i < 512
-      → Allows (Kept n) slots id me (word_place f i) (λ x. x) (Looked (step slots (word_place f i) 0 0 none) me)
+  pub looks : (f i : ℕ) → Has f (reach me.0.view) → i < 512
+      → Allows (Kept n) slots id me (word_place f i) (λ x. x)
+      (Looked (step slots (word_place f i) 0 0 none) me)
   looks f i h lt s kept _ at _ = (
     me.0,
     keeps,
@@ -51,25 +56,48 @@ module _ (n : ℕ) (slots id : ℕ) (me : Mine) where
       same = refl;
       word = λ g j k e.
           let p = places.one_word f i g j lt k e in
-          let w = (kept.rule.agrees id me.0 at).word f i h lt in
-          w ∙ (λ q. word_of me.0 (p.0 q) (p.1 q));
+          let a = kept.rule.agrees id me.0.view (seen_at s.views id me.0 at) in
+          a.word f i h lt ∙ (λ q. word_of me.0.view (p.0 q) (p.1 q));
     },
   )
 
-  -- a load that tells no word
+  -- loads that tell no word
   pub looks_again : Allows (Kept n) slots id me 0 (λ x. x) (LookedAgain (step slots 0 0 0 none) me)
   looks_again s kept _ at _ = (
     me.0,
     keeps,
     tt,
     stays n s id me 0 kept at,
-    record { same = refl; sound = sound n (frames_in s.words) s.views kept.rule id me.0 at },
+    record {
+      same = refl;
+      sound = sound n (frames_in s.words) (views_of s.views) kept.rule id me.0.view
+          (seen_at s.views id me.0 at);
+    },
   )
 
-  pub looks_at_meta : (f : ℕ) → Has f (reach me.0)
-      → Allows (Kept n) slots id me (meta_place f) (λ x. x) (LookedAtMeta (step slots (meta_place f) 0 0 none) me)
+  pub looks_whole : Allows (Kept n) slots id me 0 (λ x. x) (LookedWhole (step slots 0 0 0 none) me)
+  looks_whole s kept _ at _ =
+      let there = seen_at s.views id me.0 at in
+      let frames = (kept.rule.agrees id me.0.view there).frames in (
+        me.0,
+        keeps,
+        tt,
+        stays n s id me 0 kept at,
+        record {
+          same = refl;
+          all = λ lone whole f lt.
+              let e = frames (omega arith) in
+              let inside : f < n = omega arith in
+              (whole_owns n (frames_in s.words) (views_of s.views) kept.rule id me.0.view there
+              lone whole f inside).0;
+        },
+      )
+
+  pub looks_at_meta : (f : ℕ) → Has f (reach me.0.view)
+      → Allows (Kept n) slots id me (meta_place f) (λ x. x)
+      (LookedAtMeta (step slots (meta_place f) 0 0 none) me)
   looks_at_meta f h s kept _ at _ =
-      let a = kept.rule.agrees id me.0 at in
+      let a = kept.rule.agrees id me.0.view (seen_at s.views id me.0 at) in
       let k = a.kind f h in
       let b = kept.rule.kinds f (a.inside f h) in (
         me.0,
@@ -78,7 +106,9 @@ module _ (n : ℕ) (slots id : ℕ) (me : Mine) where
         stays n s id me (meta_place f) kept at,
         record {
           same = refl;
-          kind = λ g e. subst (λ (x : ℕ). get_or s.words (f * 513) 0 % 256 ≡ kind_number (kind_of me.0 x)) (places.one_meta f g e) (omega arith);
+          kind = λ g e.
+              subst (λ (x : ℕ). get_or s.words (f * 513) 0 % 256 ≡ kind_number (kind_of me.0.view x))
+              (places.one_meta f g e) (omega arith);
         },
       )
 
@@ -177,19 +207,26 @@ module _ (n : ℕ) (ws : List ℕ) (views : List View) (rule : FrameRule n (fram
   put_kept = news_kept n l m views rule id v at f (kind_of v f) (set (words_of v f) i x) put_news
 
 module _ (n : ℕ) (slots id : ℕ) (me : Mine) where
-  pub puts : (f i x : ℕ) → Has f me.0.owned → kind_of me.0 f ≡ Data → i < 512
-      → Allows (Kept n) slots id me (word_place f i) (λ _. x) (λ _. DidPut (step slots (word_place f i) x 0 none) me x)
+  pub puts : (f i x : ℕ) → Has f me.0.view.owned → kind_of me.0.view f ≡ Data → i < 512
+      → Allows (Kept n) slots id me (word_place f i) (λ _. x)
+      (λ _. DidPut (step slots (word_place f i) x 0 none) me x)
   puts f i x own kind lt s kept _ at _ =
-      let rule = put_kept n s.words s.views kept.rule kept.size id me.0 at f i x own kind lt in
-      let w = put me.0 f i x in (
+      let w = with_view me.0 (put me.0.view f i x) in
+      let m = frames_in (set s.words (word_place f i) x) in
+      let rule = rule_set n m s.views id w
+      (put_kept n s.words (views_of s.views) kept.rule kept.size id me.0.view
+      (seen_at s.views id me.0 at) f i x own kind lt) in (
         w,
         keeps,
         tt,
         record { size = length-set s.words (word_place f i) x ∙ kept.size; rule = rule },
         record {
           slots = refl;
-          view = λ g j k e. let p = places.one_word f i g j lt k e in (λ q. put me.0 (p.0 q) (p.1 q) x);
-          sound = sound n (frames_in (set s.words (word_place f i) x)) (set s.views id w) rule id w (set_here s.views id w (at_length s.views id me.0 at));
+          tally = refl;
+          view = λ g j k e.
+              let p = places.one_word f i g j lt k e in
+              (λ q. put me.0.view (p.0 q) (p.1 q) x);
+          sound = now_sound n m s.views id w me.0 at rule;
         },
       )
 
@@ -277,18 +314,26 @@ module _ (n : ℕ) (ws : List ℕ) (views : List View) (rule : FrameRule n (fram
   dress_kept = news_kept n dl dm views rule id v at f kind (words_of v f) dress_news
 
 module _ (n : ℕ) (slots id : ℕ) (me : Mine) where
-  pub dresses : (f : ℕ) (kind : Kind) → IsLoose me.0 f → IsClear me.0 f
-      → Allows (Kept n) slots id me (meta_place f) (λ _. kind_number kind) (λ _. DidDress (step slots (meta_place f) (kind_number kind) 0 none) me (kind_number kind))
+  pub dresses : (f : ℕ) (kind : Kind) → IsLoose me.0.view f → IsClear me.0.view f
+      → Allows (Kept n) slots id me (meta_place f) (λ _. kind_number kind)
+      (λ _. DidDress (step slots (meta_place f) (kind_number kind) 0 none) me (kind_number kind))
   dresses f kind loose clear s kept _ at _ =
-      let rule = dress_kept n s.words s.views kept.rule kept.size id me.0 at f kind loose clear in
-      let w = dressed me.0 f kind in (
+      let w = with_view me.0 (dressed me.0.view f kind) in
+      let m = frames_in (set s.words (meta_place f) (kind_number kind)) in
+      let rule = rule_set n m s.views id w
+      (dress_kept n s.words (views_of s.views) kept.rule kept.size id me.0.view
+      (seen_at s.views id me.0 at) f kind loose clear) in (
         w,
         keeps,
         tt,
         record { size = length-set s.words (meta_place f) (kind_number kind) ∙ kept.size; rule = rule },
         record {
           slots = refl;
-          view = λ g other e k. let p = places.one_meta f g e in let q = kind_number_one kind other k in (λ z. dressed me.0 (p z) (q z));
-          sound = sound n (frames_in (set s.words (meta_place f) (kind_number kind))) (set s.views id w) rule id w (set_here s.views id w (at_length s.views id me.0 at));
+          tally = refl;
+          view = λ g other e k.
+              let p = places.one_meta f g e in
+              let q = kind_number_one kind other k in
+              (λ z. dressed me.0.view (p z) (q z));
+          sound = now_sound n m s.views id w me.0 at rule;
         },
       )

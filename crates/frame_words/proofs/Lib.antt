@@ -4,6 +4,7 @@ pub mod Keeps
 pub mod News
 pub mod Partings
 pub mod Places
+pub mod Seats
 pub mod Shares
 pub mod Splits
 pub mod Unions

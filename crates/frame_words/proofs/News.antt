@@ -5,13 +5,14 @@ use mathlib.Core.Option.{some, some-ne-none, some-injective}
 use lib.ListN.{get_elem?}
 use Rattle.atomic_table.proofs.Lists.{at_set, set_here, set_else}
 use Rattle.std.proofs.lemmas.Bool.{cases_eq}
+use Rattle.frame_model.specs.Words.{depth}
 use Rattle.frame_model.specs.declared.kind.Kind.{Kind}
 use Rattle.frame_model.specs.declared.view.Known.{Known}
 use Rattle.frame_model.specs.declared.view.View.{View}
 use Rattle.frame_model.specs.Words.{Frames, kind_number, kind_at, count_at, IsMeta, names}
 use Rattle.frame_model.specs.Views.{Has, times, forget, known_of, targets_by_kind, targets_of, reach, IsStaked, with_known}
 use Rattle.frame_model.specs.Rule.{At, total, Agrees, IsNamedByOwn, IsHeldOnce, Descends, FrameRule}
-use Rattle.frame_model.proofs.Reach.{known_here, known_else, forget_else, in_forget, news_within}
+use Rattle.frame_model.proofs.Reach.{known_here, known_else, forget_else, news_within}
 use Rattle.frame_model.proofs.Counts.{links_same, total_set}
 
 pub at_length : {A : Type 0} (l : List A) (i : ℕ) (a : A) → get_elem? l i ≡ some a → i < length l
@@ -43,7 +44,7 @@ module _ (n : ℕ) (l m : Frames) (views : List View) (rule : FrameRule n l view
 
   reach_same : reach w ≡ reach v
   unfolding w
-  reach_same = news_within (record { frame = f; kind = kind; words = words }) v.known 3 (v.owned ++ v.references) news.targets
+  reach_same = news_within (record { frame = f; kind = kind; words = words }) v.known depth (v.owned ++ v.references) news.targets
 
   page_here : (g : ℕ) → g ≡ f → known_of w.known g ≡ record { frame = f; kind = kind; words = words }
   unfolding w
@@ -73,16 +74,6 @@ module _ (n : ℕ) (l m : Frames) (views : List View) (rule : FrameRule n l view
             (λ (e : g ≡ f). ap (λ (x : ℕ). m.word x i) e ∙ news.word_here i lt ∙ sym (ap (λ (k : Known). get_or k.words i 0) (page_here g e)))
             (λ (ne : g ≢ f). news.word_else g i ne lt ∙ a.word g i (back g h) lt ∙ sym (ap (λ (k : Known). get_or k.words i 0) (page_else g ne)))
             (cases_eq g f);
-        newest = λ k i h. ⊎_elim
-            (λ (e : k ≡ record { frame = f; kind = kind; words = words }).
-            let there = page_here k.frame (ap (λ (x : Known). x.frame) e) in
-            record { kind = ap (λ (x : Known). kind_number x.kind) (there ∙ sym e); words = ap (λ (x : Known). x.words) (there ∙ sym e) })
-            (λ r.
-            let old = in_forget v.known f k r in
-            let there = page_else k.frame old.0 in
-            let was_newest = a.newest k old.1 (back k.frame h) in
-            record { kind = ap (λ (x : Known). kind_number x.kind) there ∙ was_newest.kind; words = ap (λ (x : Known). x.words) there ∙ was_newest.words })
-            i;
       }
 
   -- another view, which doesn't reach the frame
@@ -96,7 +87,6 @@ module _ (n : ℕ) (l m : Frames) (views : List View) (rule : FrameRule n l view
         whole = a.whole;
         kind = λ g h. news.kind_else g (far g h) ∙ a.kind g h;
         word = λ g i h lt. news.word_else g i (far g h) lt ∙ a.word g i h lt;
-        newest = a.newest;
       }
 
   -- what a view held before the step, it holds

@@ -6,7 +6,7 @@ use Rattle.atomic_table.proofs.Lists.{at_set, set_here, set_else, at_longer, at_
 use Rattle.std.proofs.lemmas.Bool.{cases_eq}
 use Rattle.frame_model.specs.declared.view.View.{View}
 use Rattle.frame_model.specs.Words.{Frames, count_at}
-use Rattle.frame_model.specs.Views.{Has, times, reach, part_of, IsStaked, IsSound}
+use Rattle.frame_model.specs.Views.{Has, times, Names, reach, part_of, IsStaked, IsSound}
 use Rattle.frame_model.specs.Rule.{At, total, Agrees, IsHeldOnce, FrameRule}
 use Rattle.frame_model.proofs.Counts.{total_set}
 use Rattle.frame_words.proofs.News.{at_length, one_at}
@@ -24,6 +24,11 @@ total_snoc h (x ∷ xs) v = let r = total_snoc h xs v in omega arith
 -- u has a part of what v has, and knows what v knows
 pub record IsPart (v : View) (owned references : List ℕ) (stake : ℕ) : Type 0 where
   pub reached : (f : ℕ) → Has f (reach (part_of v owned references stake)) → Has f (reach v)
+  pub own : (f : ℕ) → Has f owned → Has f v.owned
+  pub refers : (f : ℕ) → Has f references → Has f v.references
+  -- what is owned and names a frame of this part, and is reached from it, is in it too
+  pub above : (f g : ℕ) → Has f owned → Has g v.owned
+      → Has g (reach (part_of v owned references stake)) → Names v g f → Has g owned
   pub once : (f : ℕ) → times f owned ≤ 1
   pub staked : IsStaked (part_of v owned references stake)
 
@@ -32,7 +37,10 @@ part_sound v owned references stake part is = record {
   inside = λ f h. is.inside f (part.reached f h);
   whole = λ f h. is.whole f (part.reached f h);
   entries = λ f i h lt table ne. let e = is.entries f i (part.reached f h) lt table ne in record { form = e.form; below = e.below };
-  newest = λ k i h. let e = is.newest k i (part.reached k.frame h) in record { kind = e.kind; words = e.words };
+  walled = λ f g o r away t.
+      is.walled f g (part.own f o) (part.reached g r) (λ gv. away (part.above f g o gv r t)) t;
+  single = λ f g o r t ref.
+      is.single f g (part.own f o) (part.reached g r) t (part.refers f ref);
   once = part.once;
   staked = part.staked;
 }
@@ -44,7 +52,6 @@ part_agrees n m v owned references stake part live a = record {
   whole = λ f h. a.whole f (part.reached f h);
   kind = λ f h. a.kind f (part.reached f h);
   word = λ f i h lt. a.word f i (part.reached f h) lt;
-  newest = λ k i h. let e = a.newest k i (part.reached k.frame h) in record { kind = e.kind; words = e.words };
 }
 
 -- left and right have together what v has, each its own, and what is owned is held as it was

@@ -1,7 +1,9 @@
 -- A holder's view that is cut along a part keeps the rule, and both parts are sound.
 use Rattle.std.proofs.Common.{◌≡◌, ℕ, ◌-◌, ◌<◌, ◌≤◌, ◌⊎◌, Bool, true, false, List, [], ◌∷◌, ◌++◌, set, refl, ⊎_elim, arith}
 use Rattle.atomic_table.specs.Table.{Splits}
+use Rattle.frame_model.specs.declared.holding.Holding.{Holding}
 use Rattle.frame_model.specs.declared.view.View.{View}
+use Rattle.frame_model.specs.Holdings.{held, with_view, views_of}
 use Rattle.frame_model.specs.Words.{Frames, frames_in}
 use Rattle.frame_model.specs.Views.{Has, has, among, without, less_one, IsSound, IsLoose}
 use Rattle.frame_model.specs.Rule.{At, FrameRule}
@@ -11,6 +13,7 @@ use Rattle.frame_words.specs.declared.part.Part.TheVariants.{Pile, Root}
 use Rattle.frame_words.specs.Plays.{Kept}
 use Rattle.frame_words.specs.Steps.{pile_of, tree_of, stake_of, less_root, root_alone, kept_of, given_of, IsThere}
 use Rattle.frame_words.proofs.Partings.{part_sound, parting_kept}
+use Rattle.frame_words.proofs.Seats.{seen_at, rule_more}
 use Rattle.frame_words.proofs.Splits.{pile_left, pile_right, owned_left, owned_right, alone_left, alone_right, pile_parting, alone_parting, owned_parting}
 
 -- a reference to a root that isn't owned
@@ -38,26 +41,26 @@ given_frames (Root root stake) v = root_alone_frames (has root.0 v.owned) v root
 module _ (v : View) (is : IsSound v) where
   less_root_sound : (own : Bool) (root stake : ℕ) → has root v.owned ≡ own → IsLoose v root ⊎ Has root v.references → stake < v.stake → IsSound (less_root own v root stake)
   less_root_sound true root stake e there rest =
-      part_sound v (without (tree_of v root) v.owned) (without (root ∷ []) v.references) (v.stake - stake) (owned_left v is root (v.stake - stake) (omega arith)) is
+      part_sound v (without (tree_of v root) v.owned) (without (root ∷ []) v.references) (v.stake - stake) (owned_left v is root (v.stake - stake) (has_true root v.owned e) (omega arith)) is
   less_root_sound false root stake e there rest =
       part_sound v v.owned (less_one root v.references) (v.stake - stake) (alone_left v is root (v.stake - stake) (root_there v root there (has_false root v.owned e)) (omega arith)) is
 
   pub kept_sound : (part : Part) → IsThere part v → stake_of part < v.stake → IsSound (kept_of part v)
   unfolding kept_of IsThere
   kept_sound (Pile first count stake) there rest =
-      part_sound v (without (pile_of v first.0 count) v.owned) v.references (v.stake - stake) (pile_left v is first.0 count (v.stake - stake) (omega arith)) is
+      part_sound v (without (pile_of v first.0 count) v.owned) v.references (v.stake - stake) (pile_left v is first.0 count (v.stake - stake) there (omega arith)) is
   kept_sound (Root root stake) there rest = less_root_sound (has root.0 v.owned) root.0 stake refl there rest
 
   root_alone_sound : (own : Bool) (root stake : ℕ) → has root v.owned ≡ own → IsLoose v root ⊎ Has root v.references → 1 ≤ stake → IsSound (root_alone own v root stake)
   root_alone_sound true root stake e there some_stake =
-      part_sound v (among (tree_of v root) v.owned) (among (root ∷ []) v.references) stake (owned_right v is root stake (omega arith)) is
+      part_sound v (among (tree_of v root) v.owned) (among (root ∷ []) v.references) stake (owned_right v is root stake (has_true root v.owned e) (omega arith)) is
   root_alone_sound false root stake e there some_stake =
       part_sound v [] (root ∷ []) stake (alone_right v is root stake (root_there v root there (has_false root v.owned e)) (omega arith)) is
 
   pub given_sound : (part : Part) → IsThere part v → 1 ≤ stake_of part → IsSound (given_of part v)
   unfolding given_of IsThere
   given_sound (Pile first count stake) there some_stake =
-      part_sound v (among (pile_of v first.0 count) v.owned) [] stake (pile_right v is first.0 count stake (omega arith)) is
+      part_sound v (among (pile_of v first.0 count) v.owned) [] stake (pile_right v is first.0 count stake there (omega arith)) is
   given_sound (Root root stake) there some_stake = root_alone_sound (has root.0 v.owned) root.0 stake refl there some_stake
 
 module _ (n : ℕ) (m : Frames) (views : List View) (rule : FrameRule n m views) (id : ℕ) (v : View) (at : At views id v) where
@@ -79,9 +82,13 @@ module _ (n : ℕ) (m : Frames) (views : List View) (rule : FrameRule n m views)
       (pile_parting n m views rule id v at first.0 count stake there some_stake rest)
   part_kept (Root root stake) there some_stake rest = root_kept (has root.0 v.owned) root.0 stake refl there some_stake rest
 
-pub splits : (n id : ℕ) (v : View) (part : Part) → IsThere part v → 1 ≤ stake_of part → stake_of part < v.stake
-    → Splits (Kept n) id v (kept_of part v) (given_of part v)
-splits n id v part there some_stake rest s kept at = record {
+pub splits : (n id : ℕ) (h : Holding) (part : Part) → IsThere part h.view → 1 ≤ stake_of part
+    → stake_of part < h.view.stake
+    → Splits (Kept n) id h (with_view h (kept_of part h.view)) (held (given_of part h.view))
+splits n id h part there some_stake rest s kept at = record {
   size = kept.size;
-  rule = part_kept n (frames_in s.words) s.views kept.rule id v at part there some_stake rest;
+  rule = rule_more n (frames_in s.words) s.views id (with_view h (kept_of part h.view))
+      (held (given_of part h.view))
+      (part_kept n (frames_in s.words) (views_of s.views) kept.rule id h.view
+      (seen_at s.views id h at) part there some_stake rest);
 }

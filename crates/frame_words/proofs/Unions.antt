@@ -1,12 +1,15 @@
 -- Two views that are made one keep the rule.
-use Rattle.std.proofs.Common.{◌≡◌, ℕ, suc, ◌+◌, ◌<◌, ◌≤◌, ◌≢◌, ◌⊎◌, List, [], ◌∷◌, ◌++◌, length, get_or, set, refl, sym, ap, subst, ◌∙◌, inl, inr, ⊎_elim, arith, length-append}
+use Rattle.std.proofs.Common.{◌≡◌, ℕ, ◌+◌, ◌<◌, ◌≤◌, ◌≢◌, ◌⊎◌, List, [], ◌∷◌, ◌++◌, length, get_or, set, refl, sym, ap, subst, ◌∙◌, inl, inr, ⊎_elim, arith, length-append}
 use Rattle.atomic_table.proofs.Lists.{at_set, set_here, set_else}
 use Rattle.atomic_table.specs.Table.{Joins}
 use Rattle.std.proofs.lemmas.Bool.{cases_eq}
+use Rattle.frame_model.specs.Words.{depth}
+use Rattle.frame_model.specs.declared.holding.Holding.{Holding}
+use Rattle.frame_model.specs.Holdings.{held, with_view, views_of}
 use Rattle.frame_model.specs.declared.view.Known.{Known}
 use Rattle.frame_model.specs.declared.view.View.{View}
 use Rattle.frame_model.specs.Words.{Frames, frames_in, kind_number, kind_at, count_at}
-use Rattle.frame_model.specs.Views.{Has, times, In, known_of, words_of, targets_of, reach, sights, IsStaked, IsNewest}
+use Rattle.frame_model.specs.Views.{Has, times, known_of, targets_of, reach, sights, IsStaked}
 use Rattle.frame_model.specs.Rule.{At, total, Agrees, IsNamedByOwn, IsHeldOnce, FrameRule}
 use Rattle.frame_model.proofs.Counts.{total_set}
 use Rattle.frame_model.proofs.Owners.{one_owner}
@@ -15,6 +18,7 @@ use Rattle.frame_model.proofs.Rules.{sound, sound_closed}
 use Rattle.frame_words.specs.Plays.{Kept}
 use Rattle.frame_words.specs.Steps.{joined, spent}
 use Rattle.frame_words.proofs.News.{at_length, one_at}
+use Rattle.frame_words.proofs.Seats.{seen_at, rule_set_two}
 use Rattle.frame_words.proofs.Splits.{root_reached}
 
 -- ---- lists
@@ -22,19 +26,6 @@ use Rattle.frame_words.proofs.Splits.{root_reached}
 pub times_append : (f : ℕ) (xs ys : List ℕ) → times f (xs ++ ys) ≡ times f xs + times f ys
 times_append f [] ys = omega arith
 times_append f (x ∷ xs) ys = let r = times_append f xs ys in omega arith
-
-same_list : (xs ys : List ℕ) → length xs ≡ length ys → ((i : ℕ) → i < length xs → get_or xs i 0 ≡ get_or ys i 0) → xs ≡ ys
-same_list [] [] e each = refl
-same_list [] (y ∷ ys) e each = absurd (omega arith)
-same_list (x ∷ xs) [] e each = absurd (omega arith)
-same_list (x ∷ xs) (y ∷ ys) e each =
-    let h = each 0 (omega arith) in
-    let r = same_list xs ys (omega arith) (λ i lt. each (suc i) (omega arith)) in
-    λ k. h k ∷ r k
-
-in_append : (xs ys : List Known) (k : Known) → In k (xs ++ ys) → In k xs ⊎ In k ys
-in_append [] ys k h = inr h
-in_append (x ∷ xs) ys k h = ⊎_elim (λ e. inl (inl e)) (λ r. ⊎_elim (λ a. inl (inr a)) (λ b. inr b) (in_append xs ys k r)) h
 
 -- ---- what is known of a frame that is in sight
 
@@ -55,15 +46,6 @@ sights_else ks rest [] f away = refl
 sights_else ks rest (x ∷ xs) f away =
     known_else (sight ks x) (sights ks xs ++ rest) f (λ e. away (inl (sym e)))
     ∙ sights_else ks rest xs f (λ h. away (inr h))
-
-in_sights : (ks : List Known) (fs : List ℕ) (k : Known) → In k (sights ks fs) → Has k.frame fs × (k ≡ sight ks k.frame)
-in_sights ks [] k h = absurd h
-in_sights ks (x ∷ xs) k h = ⊎_elim
-    (λ (e : k ≡ sight ks x).
-    let f : k.frame ≡ x = ap (λ (y : Known). y.frame) e in
-    (inl f, e ∙ ap (λ (y : ℕ). sight ks y) (sym f)))
-    (λ r. let p = in_sights ks xs k r in (inr p.0, p.1))
-    h
 
 -- a list with nothing behind it
 sights_last : (ks : List Known) (fs : List ℕ) (f : ℕ) → Has f fs → known_of (sights ks fs) f ≡ sight ks f
@@ -114,7 +96,7 @@ module _ (n : ℕ) (m : Frames) (views : List View) (rule : FrameRule n m views)
       (dec_has f (reach v))
 
   reached : (f : ℕ) → Has f (reach u) → Has f (reach v) ⊎ Has f (reach w)
-  reached f h = within_inside (λ (x : ℕ). Has x (reach v) ⊎ Has x (reach w)) u.known 3 (u.owned ++ u.references) firsts along f h
+  reached f h = within_inside (λ (x : ℕ). Has x (reach v) ⊎ Has x (reach w)) u.known depth (u.owned ++ u.references) firsts along f h
 
   -- what holds of what either view says of a frame holds of what both say
   said : (Q : Known → Type 0) (f : ℕ) → Has f (reach u) → (Has f (reach v) → Q (sight v.known f)) → (Has f (reach w) → Q (sight w.known f)) → Q (known_of u.known f)
@@ -123,29 +105,6 @@ module _ (n : ℕ) (m : Frames) (views : List View) (rule : FrameRule n m views)
       (λ a. subst Q (sym (known_v f a)) (one a))
       (λ away. ⊎_elim (λ a. absurd (away a)) (λ b. subst Q (sym (known_w f away b)) (two b)) (reached f h))
       (dec_has f (reach v))
-
-  newest_v : (k : Known) → In k (sights v.known (reach v)) → IsNewest u k
-  newest_v k i =
-      let p = in_sights v.known (reach v) k i in
-      let e : known_of u.known k.frame ≡ k = known_v k.frame p.0 ∙ sym p.1 in
-      record { kind = ap (λ (x : Known). kind_number x.kind) e; words = ap (λ (x : Known). x.words) e }
-
-  newest_w : (k : Known) → In k (sights w.known (reach w)) → Has k.frame (reach u) → IsNewest u k
-  newest_w k i h =
-      let p = in_sights w.known (reach w) k i in
-      let a = rule.agrees id v at in
-      let b = rule.agrees other w there in
-      let q = said (λ (x : Known). (kind_number x.kind ≡ kind_number k.kind) × (x.words ≡ k.words)) k.frame h
-      (λ r.
-      let same = same_list (words_of v k.frame) (words_of w k.frame) (a.whole k.frame r ∙ sym (b.whole k.frame p.0))
-      (λ j lt. let lv = a.whole k.frame r in let k512 : j < 512 = omega arith in sym (a.word k.frame j r k512) ∙ b.word k.frame j p.0 k512) in
-      (sym (a.kind k.frame r) ∙ b.kind k.frame p.0 ∙ sym (ap (λ (x : Known). kind_number x.kind) p.1), same ∙ sym (ap (λ (x : Known). x.words) p.1)))
-      (λ r. (sym (ap (λ (x : Known). kind_number x.kind) p.1), sym (ap (λ (x : Known). x.words) p.1))) in
-      record { kind = q.0; words = q.1 }
-
-  newest : (k : Known) → In k u.known → Has k.frame (reach u) → IsNewest u k
-  unfolding u joined
-  newest k i h = ⊎_elim (λ a. newest_v k a) (λ b. newest_w k b h) (in_append (sights v.known (reach v)) (sights w.known (reach w)) k i)
 
   u_frames : u.frames ≡ n
   unfolding u joined
@@ -161,7 +120,6 @@ module _ (n : ℕ) (m : Frames) (views : List View) (rule : FrameRule n m views)
         whole = λ f h. said (λ (x : Known). length x.words ≡ 512) f h (λ r. a.whole f r) (λ r. b.whole f r);
         kind = λ f h. said (λ (x : Known). kind_at m f ≡ kind_number x.kind) f h (λ r. a.kind f r) (λ r. b.kind f r);
         word = λ f i h lt. said (λ (x : Known). m.word f i ≡ get_or x.words i 0) f h (λ r. a.word f i r lt) (λ r. b.word f i r lt);
-        newest = newest;
       }
 
   -- ---- the views after
@@ -200,17 +158,16 @@ module _ (n : ℕ) (m : Frames) (views : List View) (rule : FrameRule n m views)
 
   nowhere : (f : ℕ) → Has f (reach spent) → ⊥
   unfolding spent
-  nowhere f h = within_empty [] 3 f h
+  nowhere f h = within_empty [] depth f h
 
   spent_agrees : Agrees n m spent
   unfolding spent
   spent_agrees = record {
     frames = λ z. absurd (omega arith);
-    inside = λ f h. absurd (within_empty [] 3 f h);
-    whole = λ f h. absurd (within_empty [] 3 f h);
-    kind = λ f h. absurd (within_empty [] 3 f h);
-    word = λ f i h lt. absurd (within_empty [] 3 f h);
-    newest = λ k h. absurd h;
+    inside = λ f h. absurd (within_empty [] depth f h);
+    whole = λ f h. absurd (within_empty [] depth f h);
+    kind = λ f h. absurd (within_empty [] depth f h);
+    word = λ f i h lt. absurd (within_empty [] depth f h);
   }
 
   Apart : ℕ → View → Type 0
@@ -338,11 +295,16 @@ pub joined_frames : (v w : View) → (joined v w).frames ≡ v.frames
 unfolding joined
 joined_frames v w = refl
 
-pub joins : (n id other : ℕ) (v w : View) → v.frames ≡ n → length v.references + length w.references ≤ 16
-    → Joins (Kept n) id v other w (joined v w) spent
+pub joins : (n id other : ℕ) (h k : Holding) → h.view.frames ≡ n
+    → length h.view.references + length k.view.references ≤ 16
+    → Joins (Kept n) id h other k (with_view h (joined h.view k.view)) (held spent)
 unfolding now u
-joins n id other v w frames few s kept at ne there = record {
-  size = kept.size;
-  rule = kept_rule n (frames_in s.words) s.views kept.rule id v at other w
-      (sym (set_else s.views id other (joined v w) ne) ∙ there) ne frames few;
-}
+joins n id other h k frames few s kept at ne there =
+    let both = with_view h (joined h.view k.view) in
+    let far = sym (set_else s.views id other both ne) ∙ there in
+    record {
+      size = kept.size;
+      rule = rule_set_two n (frames_in s.words) s.views id both other (held spent)
+          (kept_rule n (frames_in s.words) (views_of s.views) kept.rule
+          id h.view (seen_at s.views id h at) other k.view (seen_at s.views other k far) ne frames few);
+    }

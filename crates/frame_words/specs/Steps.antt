@@ -1,6 +1,7 @@
 -- What each step makes of the view of the holder that takes it. No other view changes.
 use Rattle.std.specs.Prelude.{◌≡◌, ℕ, zero, suc, ◌+◌, ◌-◌, ◌<◌, ◌⊎◌, Bool, true, false}
 use Rattle.std.specs.Prelude.{List, [], ◌∷◌, ◌++◌, slice_set}
+use Rattle.frame_model.specs.Words.{depth}
 use Rattle.frame_model.specs.declared.kind.Kind.{Kind}
 use Rattle.frame_model.specs.declared.kind.Kind.TheVariants.{Data}
 use Rattle.frame_model.specs.declared.view.View.{View}
@@ -30,7 +31,7 @@ pile_of v f (suc count) = f ∷ pile_of v (word_of v f 0) count
 
 -- a frame, and all that is below it
 abbrev pub tree_of : View → ℕ → List ℕ
-tree_of v root = within v.known 3 (root ∷ [])
+tree_of v root = within v.known depth (root ∷ [])
 
 -- the stake that goes to the new holder
 abbrev pub stake_of : Part → ℕ

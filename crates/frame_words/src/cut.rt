@@ -2,7 +2,7 @@
 
 use crate::part::Part;
 use atomic_table::{Join, Split};
-use frame_model::View;
+use frame_model::Holding;
 use std::marker::{Brand, PhantomData};
 
 /// The part that a split names. The proof of a split picks it, whatever it is.
@@ -21,21 +21,23 @@ impl Named for Brand {
 /// The cut along a part.
 pub struct Cut<P: Named>(PhantomData<P>);
 
-impl<P: Named> Split<View> for Cut<P> {
+impl<P: Named> Split<Holding> for Cut<P> {
+    ghost use Rattle.frame_model.specs.Holdings.{held, with_view};
     ghost use Rattle.frame_words.specs.Steps.{kept_of, given_of};
 
-    ghost left = { kept_of P.part };
+    ghost left = { λ h. with_view h (kept_of P.part h.view) };
 
-    ghost right = { given_of P.part };
+    ghost right = { λ h. held (given_of P.part h.view) };
 }
 
 /// Two views as one.
 pub struct Unite;
 
-impl Join<View> for Unite {
+impl Join<Holding> for Unite {
+    ghost use Rattle.frame_model.specs.Holdings.{held, with_view};
     ghost use Rattle.frame_words.specs.Steps.{joined, spent};
 
-    ghost both = { joined };
+    ghost both = { λ h other. with_view h (joined h.view other.view) };
 
-    ghost spent = { spent };
+    ghost spent = { held spent };
 }

@@ -1,24 +1,25 @@
 //! The rule as the table keeps it, and what each kind of step tells.
 
 use atomic_table::{Play, TableRule};
-use frame_model::View;
+use frame_model::Holding;
 
 /// The rule of shared frames.
 pub struct FrameLaw;
 
-impl TableRule<(), View, u32> for FrameLaw {
+impl TableRule<(), Holding, u32> for FrameLaw {
+    ghost use Rattle.frame_model.specs.Holdings.{held};
     ghost use Rattle.frame_model.specs.Views.{first_view};
     ghost use Rattle.frame_words.specs.Plays.{Kept};
 
     ghost holds = { Kept };
 
-    ghost first = { first_view };
+    ghost first = { λ n. held (first_view n) };
 }
 
 /// A load of a frame's word.
 pub struct Look;
 
-impl Play<(), View> for Look {
+impl Play<(), Holding> for Look {
     ghost use Rattle.frame_words.specs.Plays.{Looked};
 
     ghost then = { Looked };
@@ -27,7 +28,7 @@ impl Play<(), View> for Look {
 /// A load of a frame's meta word.
 pub struct LookAtMeta;
 
-impl Play<(), View> for LookAtMeta {
+impl Play<(), Holding> for LookAtMeta {
     ghost use Rattle.frame_words.specs.Plays.{LookedAtMeta};
 
     ghost then = { LookedAtMeta };
@@ -36,7 +37,7 @@ impl Play<(), View> for LookAtMeta {
 /// A store of an owned word of data.
 pub struct Put;
 
-impl Play<(), View> for Put {
+impl Play<(), Holding> for Put {
     ghost use Rattle.frame_words.specs.Plays.{DidPut};
 
     ghost then = { DidPut };
@@ -45,7 +46,7 @@ impl Play<(), View> for Put {
 /// A store of an owned meta word.
 pub struct Dress;
 
-impl Play<(), View> for Dress {
+impl Play<(), Holding> for Dress {
     ghost use Rattle.frame_words.specs.Plays.{DidDress};
 
     ghost then = { DidDress };
@@ -54,8 +55,17 @@ impl Play<(), View> for Dress {
 /// A load that tells no word: what the view says is sound.
 pub struct LookAgain;
 
-impl Play<(), View> for LookAgain {
+impl Play<(), Holding> for LookAgain {
     ghost use Rattle.frame_words.specs.Plays.{LookedAgain};
 
     ghost then = { LookedAgain };
+}
+
+/// A load that tells no word: what a view with the whole stake owns.
+pub struct LookAtAll;
+
+impl Play<(), Holding> for LookAtAll {
+    ghost use Rattle.frame_words.specs.Plays.{LookedWhole};
+
+    ghost then = { LookedWhole };
 }

@@ -13,14 +13,14 @@ mod sharing;
 mod table;
 mod write;
 
-pub use frame_model::{Frame, Kind, View};
+pub use frame_model::{Frame, Holding, Kind, View};
 pub use holder::Holder;
 pub use machine_model::Memory;
 pub use opening::MOST_FRAMES;
 pub use part::Part;
 pub use peek::{peek_meta, peek_word};
 pub use place::{meta_place, word_place};
-pub use sharing::{join, split};
+pub use sharing::{join, split, tell_whole};
 pub use table::FrameTable;
 pub use write::{dress, put_word};
 

@@ -1,9 +1,9 @@
 //! Opens a table of frames, and closes it.
 
 ghost use Rattle.std.specs.Prelude.{◌≡◌, ℕ, ◌*◌, ◌<◌, ◌≤◌, IfOk, replicate};
-ghost use Rattle.frame_model.specs.Views.{first_view};
+ghost use Rattle.frame_model.specs.Views.{OwnsAll, first_view};
 ghost use Rattle.frame_model.specs.Rule.{most_frames};
-ghost use Rattle.frame_words.specs.Holders.{view, IsOf, OwnsAll};
+ghost use Rattle.frame_words.specs.Holders.{view, IsOf};
 
 use crate::holder::Holder;
 use crate::table::FrameTable;

@@ -6,7 +6,7 @@ ghost use Rattle.frame_words.specs.Holders.{view, IsOf};
 ghost use Rattle.frame_words.specs.Steps.{joined};
 ghost use Rattle.frame_words.specs.Rows.{kept_view, given_view, written_view};
 
-use crate::{Frame, FrameTable, Holder, Part, join, peek_word, put_word, split};
+use crate::{Frame, FrameTable, Holder, Part, join, peek_word, put_word, split, tell_whole};
 use std::test::Fail;
 
 /// Gives frame 3 away.
@@ -49,6 +49,7 @@ fn closed(t: FrameTable, h: Holder, other: Holder) -> u32
 {
     let mut all = h;
     join(&t, &mut all, other);
+    tell_whole(&t, &mut all);
     t.close(all)
 }
 

@@ -17,7 +17,7 @@ invariant_of-h c =
     let v = e.2.view c.args.f.0 c.meta_place.ensures in
     record {
       sound = e.2.sound;
-      sized = ap (λ z. z.words) e.0 ∙ h.sized ∙ sym (ap (λ (k : ℕ). k * 513) (ap (λ (u : View). u.frames) v ∙ gained_frames h.seat.me.0 c.args.f.0));
+      sized = ap (λ z. z.words) e.0 ∙ h.sized ∙ sym (ap (λ (k : ℕ). k * 513) (ap (λ (u : View). u.frames) v ∙ gained_frames h.seat.me.0.view c.args.f.0));
       bare = e.2.slots ∙ h.bare;
     }
 

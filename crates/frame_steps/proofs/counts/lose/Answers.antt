@@ -19,14 +19,14 @@ invariant_of-h c =
     let v = e.2.view c.args.f.0 c.meta_place.ensures in
     record {
       sound = e.2.sound;
-      sized = ap (λ z. z.words) e.0 ∙ h.sized ∙ sym (ap (λ (k : ℕ). k * 513) (ap (λ (u : View). u.frames) v ∙ lost_frames (lost_at c.fetch_sub-found.result) h.seat.me.0 c.args.f.0));
+      sized = ap (λ z. z.words) e.0 ∙ h.sized ∙ sym (ap (λ (k : ℕ). k * 513) (ap (λ (u : View). u.frames) v ∙ lost_frames (lost_at c.fetch_sub-found.result) h.seat.me.0.view c.args.f.0));
       bare = e.2.slots ∙ h.bare;
     }
 
 pub returns-clause-view : goal.returns-clause-view
 returns-clause-view c =
     c.fetch_sub-found.ensures.2.view c.args.f.0 c.meta_place.ensures
-    ∙ ap (λ (o : Lost). lost o c.args.h.now.seat.me.0 c.args.f.0) (sym c.lost_of.ensures)
+    ∙ ap (λ (o : Lost). lost o c.args.h.now.seat.me.0.view c.args.f.0) (sym c.lost_of.ensures)
 
 pub returns-clause-own : goal.returns-clause-own
 returns-clause-own c = λ h. c.lost_of.ensures ∙ one_is_owned c.fetch_sub-found.result (c.fetch_sub-found.ensures.2.own c.args.f.0 c.meta_place.ensures h)

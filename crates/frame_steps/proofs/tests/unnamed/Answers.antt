@@ -23,4 +23,4 @@ pub peek_meta-requires-clause-reached : goal.peek_meta-requires-clause-reached
 peek_meta-requires-clause-reached c =
     let e = c.set_entry.ensures.view ∙ ap (λ (v : View). entered v 1 0 0) c.requires.named in
     let o = c.lose-last.ensures.own (subst (λ (v : View). Has 0 v.owned) (sym e) four.unnamed_owns) in
-    four.owned_reached c.lose-last.new.h.seat.me.0 0 (c.lose-last.ensures.loose o).owned
+    four.owned_reached c.lose-last.new.h.seat.me.0.view 0 (c.lose-last.ensures.loose o).owned

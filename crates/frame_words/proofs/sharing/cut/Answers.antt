@@ -16,8 +16,8 @@ invariant_of-h g c =
     let e = c.split_seat-seat.ensures in
     let part = g.P.Named.part in
     record {
-      sound = subst IsSound (sym (ap (λ (m : Mine). m.0) e.2)) (kept_sound h.seat.me.0 h.sound part c.requires.there c.requires.rest);
-      sized = ap (λ z. z.words) e.0 ∙ h.sized ∙ sym (ap (λ (k : ℕ). k * 513) (ap (λ (m : Mine). m.0.frames) e.2 ∙ kept_frames part h.seat.me.0));
+      sound = subst IsSound (sym (ap (λ (m : Mine). m.0.view) e.2)) (kept_sound h.seat.me.0.view h.sound part c.requires.there c.requires.rest);
+      sized = ap (λ z. z.words) e.0 ∙ h.sized ∙ sym (ap (λ (k : ℕ). k * 513) (ap (λ (m : Mine). m.0.view.frames) e.2 ∙ kept_frames part h.seat.me.0.view));
       bare = ap (λ (m : Mine). m.1) e.2 ∙ h.bare;
     }
 
@@ -27,7 +27,7 @@ invariant_of-result g c =
     let e = c.split_seat-seat.ensures in
     let part = g.P.Named.part in
     record {
-      sound = subst IsSound (sym (ap (λ (m : Mine). m.0) e.4)) (given_sound h.seat.me.0 h.sound part c.requires.there c.requires.some_stake);
-      sized = ap (λ z. z.words) e.3 ∙ h.sized ∙ sym (ap (λ (k : ℕ). k * 513) (ap (λ (m : Mine). m.0.frames) e.4 ∙ given_frames part h.seat.me.0));
+      sound = subst IsSound (sym (ap (λ (m : Mine). m.0.view) e.4)) (given_sound h.seat.me.0.view h.sound part c.requires.there c.requires.some_stake);
+      sized = ap (λ z. z.words) e.3 ∙ h.sized ∙ sym (ap (λ (k : ℕ). k * 513) (ap (λ (m : Mine). m.0.view.frames) e.4 ∙ given_frames part h.seat.me.0.view));
       bare = ap (λ (m : Mine). m.1) e.4;
     }

@@ -11,7 +11,7 @@ of_words-requires c = opens c.args.frames c.deref.result.now (c.deref.ensures.va
 pub invariant_of-result-2 : goal.invariant_of-result-2
 invariant_of-result-2 c =
     let e = c.in_ok-table.ensures in
-    let v = ap (λ m. m.0) e.4 in
+    let v = ap (λ m. m.0.view) e.4 in
     record {
       sound = subst IsSound (sym v) (first_is_sound c.args.frames c.requires.most);
       sized = ap (λ z. z.words) e.2 ∙ e.0 ∙ ap (λ (xs : List ℕ). length xs) (c.deref.ensures.value ∙ c.in_ok-zeros.ensures) ∙ length-replicate {A = ℕ} (c.args.frames * 513) 0 ∙ sym (ap (λ (u : View). u.frames * 513) v);

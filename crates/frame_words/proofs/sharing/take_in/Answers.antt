@@ -2,7 +2,7 @@ use Rattle.std.proofs.Common.{ℕ, ◌*◌, sym, ap, ◌∙◌}
 use Rattle.frame_words.specs.Plays.{Mine}
 use Rattle.frame_words.proofs.Calls.{has_word, looks_again, same_frames}
 use Rattle.frame_words.proofs.Unions.{joins, joined_frames}
-use Rattle.frame_words.proofs.sharing.join.Goals as goal
+use Rattle.frame_words.proofs.sharing.take_in.Goals as goal
 
 pub join_seat-requires : goal.join_seat-requires
 join_seat-requires c =
@@ -28,9 +28,9 @@ invariant_of-h c =
     let e = c.load.ensures in
     record {
       sound = e.2.sound;
-      sized = ap (λ z. z.words) (e.0 ∙ j.0) ∙ h.sized ∙ sym (ap (λ (k : ℕ). k * 513) (ap (λ (m : Mine). m.0.frames) (e.2.same ∙ j.2) ∙ joined_frames h.seat.me.0 c.args.other.seat.me.0));
+      sized = ap (λ z. z.words) (e.0 ∙ j.0) ∙ h.sized ∙ sym (ap (λ (k : ℕ). k * 513) (ap (λ (m : Mine). m.0.view.frames) (e.2.same ∙ j.2) ∙ joined_frames h.seat.me.0.view c.args.other.seat.me.0.view));
       bare = ap (λ (m : Mine). m.1) (e.2.same ∙ j.2) ∙ h.bare;
     }
 
 pub returns-clause-view : goal.returns-clause-view
-returns-clause-view c = ap (λ (m : Mine). m.0) (c.load.ensures.2.same ∙ c.join_seat.ensures.2)
+returns-clause-view c = ap (λ (m : Mine). m.0.view) (c.load.ensures.2.same ∙ c.join_seat.ensures.2)

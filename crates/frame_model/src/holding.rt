@@ -1,0 +1,15 @@
+//! What the seat of a holder stands for. No value of these types is made: they are the plain data
+//! of proofs.
+
+use crate::view::View;
+
+/// What is counted of a holder beside its frames. Nothing yet.
+pub struct Tally;
+
+/// All that the rule says of one holder.
+pub struct Holding {
+    /// What it has and knows of the frames.
+    pub view: View,
+    /// What is counted of it beside them.
+    pub tally: Tally,
+}
