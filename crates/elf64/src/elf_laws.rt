@@ -1,5 +1,5 @@
-//! Laws of ELF files: each image has sound segments and a sound entry, and no file is refused for
-//! want of memory. A function here does nothing: its contract is the law.
+//! Laws of ELF files: each image has sound segments and a sound entry, and want of
+//! memory is no file's fault. A function here does nothing: its contract is the law.
 
 ghost use Rattle.std.specs.Prelude.{◌≡◌, ◌≢◌, ℕ, ◌%◌, ◌≤◌, true, List, length, Err};
 ghost use Rattle.std.specs.List.{AllByRecursion};
@@ -21,7 +21,7 @@ pub fn segments_are_sound()
     ensures apart { HoldsOfImages (λ image. AreApart image.segments) }
 {}
 
-/// No file is refused for want of memory.
+/// Want of memory is no file's fault.
 pub fn memory_is_no_fault()
     ensures { (bytes : List ℕ) → elf bytes ≢ Err Memory }
 {}

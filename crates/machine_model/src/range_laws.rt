@@ -7,9 +7,8 @@ ghost use Rattle.machine_model.specs.Machine.{address, range_passes, least_faili
 ghost use Rattle.machine_model.specs.Machine.{count_below, with_written};
 ghost use Rattle.image_model.specs.Pages.{page_of};
 
-/// The address that a range is refused for is the least of it that fails; where there is none,
-/// each passes. Eight bytes from 2^64 - 4 on, of which none may be accessed, are refused
-/// for address 0.
+/// The address at which a range fails is the least of it that fails; where there is none, each
+/// passes. Eight bytes from 2^64 - 4 on, of which none may be accessed, fail at address 0.
 pub fn least_failing_is_least()
     ensures found { (test : ℕ → Bool) (at n : ℕ) → MatchOption (least_failing test at n)
         ((i : ℕ) → i < n → test (address at i) ≡ true)
