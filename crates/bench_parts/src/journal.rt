@@ -8,15 +8,20 @@ use std::alloc::{AllocError, Global};
 /// The most bytes of a file of event lines.
 const FILE_LIMIT: u64 = 67_108_864;
 
-/// Two functions of one layer each, over frames, with the greatest rooms of a plan.
+/// The layers of the second function: as many as a plan may have, but the one of the first.
+fn deep_stack(alloc: Global) -> Result<FunctionStack, AllocError> {
+    let mut layers = Vec::with_capacity(alloc, 63)?;
+    for k in 1..64_u16 {
+        layers.push(k)?;
+    }
+    Ok(FunctionStack { start: 0, layers })
+}
+
+/// A function of one layer and one of 63, over frames, with the greatest rooms of a plan.
 fn sizes(alloc: Global) -> Result<Sizes, AllocError> {
     let first = FunctionStack {
         start: 0,
         layers: vec![in alloc; 0]?,
-    };
-    let second = FunctionStack {
-        start: 0,
-        layers: vec![in alloc; 1]?,
     };
     Ok(Sizes {
         frames: 65_536,
@@ -26,7 +31,7 @@ fn sizes(alloc: Global) -> Result<Sizes, AllocError> {
         uses: 64,
         requests: 4_096,
         clock: Some(0),
-        stacks: vec![in alloc; first, second]?,
+        stacks: vec![in alloc; first, deep_stack(alloc)?]?,
     })
 }
 
