@@ -1,3 +1,4 @@
+pub mod Defining
 pub mod Lines
 pub mod Pieces
 pub mod Steps

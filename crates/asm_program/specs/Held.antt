@@ -1,5 +1,5 @@
 -- What the code holds of a program, as the definition has it.
-use Rattle.std.specs.Prelude.{◌≡◌, ℕ, ◌+◌, bytes_eq, List, map}
+use Rattle.std.specs.Prelude.{◌≡◌, ℕ, ◌+◌, ◌^◌, bytes_eq, List, map}
 use Rattle.std.specs.Prelude.{Option, Some, None, option_map, Result, Ok, Err}
 use Rattle.std.specs.HashMap.{get_by}
 use Rattle.asm_lines.specs.Said.{said_data}
@@ -26,8 +26,18 @@ part_of p = record {
   pieces = map (piece_of p.at) p.pieces.items;
 }
 
+-- the address of a label that lies so much above 2 ^ 64
+abbrev pub high_address : Option ℕ → Option ℕ
+high_address over = option_map (λ n. 2 ^ 64 + n) over
+
+-- the address of a label that is among those below 2 ^ 64, or among the others
+abbrev pub address_among : (low over : Option ℕ) → Option ℕ
+address_among (Some address) over = Some address
+address_among None over = high_address over
+
 abbrev pub labels_of : Labels → List ℕ → Option ℕ
-labels_of l name = get_by (λ k. bytes_eq name k.now) l.addresses
+labels_of l name = address_among (get_by (λ k. bytes_eq name k.now) l.low)
+    (get_by (λ k. bytes_eq name k.now) l.high)
 
 abbrev pub entry_of : HeldEntry → Entry
 entry_of e = record { line = e.line; name = e.name.now }

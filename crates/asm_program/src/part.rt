@@ -1,6 +1,6 @@
 //! A segment of a text.
 
-ghost use Rattle.std.specs.Prelude.{◌≡◌, ◌+◌, nat_lt, if◌then◌else◌, IfOk, []};
+ghost use Rattle.std.specs.Prelude.{◌≡◌, ◌+◌, ◌^◌, ◌<◌, nat_lt, if◌then◌else◌, IfOk, []};
 ghost use Rattle.asm_lines.specs.Said.{said_data, IsInRange};
 ghost use Rattle.asm_program.specs.Held.{part_of, Makes};
 ghost use Rattle.asm_program.specs.Program.{part_if_fits};
@@ -78,9 +78,10 @@ impl<'a> Part<'a> {
         }
     }
 
-    /// The address behind its pieces.
+    /// The address behind its pieces, below 2^65.
     pub fn end(&self) -> u128
-        ensures { result ≡ (part_of self.now).end }
+        ensures value { result ≡ (part_of self.now).end }
+        ensures within { result < 2 ^ 65 }
     {
         u128::from(self.at) + u128::from(self.used)
     }

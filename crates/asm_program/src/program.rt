@@ -1,6 +1,6 @@
 //! What was read of a text so far.
 
-ghost use Rattle.std.specs.Prelude.{◌≡◌, IfOk, OnOk, option_map, None};
+ghost use Rattle.std.specs.Prelude.{◌≡◌, ◌^◌, ◌<◌, IfOk, OnOk, option_map, None};
 ghost use Rattle.asm_lines.specs.Said.{said, said_data, IsInRange};
 ghost use Rattle.asm_program.specs.Held.{part_of, program_of, Makes};
 ghost use Rattle.asm_program.specs.Program as model;
@@ -92,9 +92,10 @@ impl<'a> Program<'a> {
         Ok(None)
     }
 
-    /// The address of what comes next.
+    /// The address of what comes next, below 2^65.
     fn here(&self) -> u128
-        ensures { result ≡ model.here (option_map part_of self.now.last) }
+        ensures value { result ≡ model.here (option_map part_of self.now.last) }
+        ensures within { result < 2 ^ 65 }
     {
         match &self.last {
             None => 0,
