@@ -1,7 +1,7 @@
 -- Steps, from what was fetched and what its instruction does.
 use Rattle.std.proofs.Common.{◌≡◌, ℕ, ◌%◌, ◌==◌, Bool, true, false, MatchBool, if◌then◌else◌}
 use Rattle.std.proofs.Common.{Option, None, Some, Result, Ok, Err, length, refl, sym, ap, ◌∙◌}
-use Rattle.hart.specs.Step.{StepDoes, DoesNext, WantsFrames, Lacks}
+use Rattle.hart.specs.Step.{StepDoes, DoesNext, IsRetiring, WouldRetire, WantsFrames, Lacks}
 use Rattle.hart.specs.declared.instruction.StepEnd.{StepEnd}
 use Rattle.hart.specs.declared.instruction.StepEnd.TheVariants.{Retired, Call, Trap, NeedFrames}
 use Rattle.hart.specs.declared.instruction.StepEnd.TheVariants.{Memory}
@@ -12,6 +12,7 @@ use Rattle.instruction_model.specs.declared.instruction.Inst.TheVariants.{Lui, A
 use Rattle.instruction_model.specs.declared.instruction.Inst.TheVariants.{Branch, Load, Store}
 use Rattle.instruction_model.specs.declared.instruction.Inst.TheVariants.{OpImm, Op, OpImmW, OpW}
 use Rattle.instruction_model.specs.declared.instruction.Inst.TheVariants.{Fence, Ecall, Ebreak}
+use Rattle.instruction_model.specs.declared.instruction.StoreOp.{StoreOp}
 use Rattle.machine_model.specs.Instruction.{Next, Retires, Calls, Raises, IsNext, Executes}
 use Rattle.machine_model.specs.Instruction.{can_fetch, word_at_pc, next_pc, effect_of, jumps, links}
 use Rattle.machine_model.specs.Instruction.{stores, unless_failing, is_taken, load_size, store_size}
@@ -21,7 +22,9 @@ use Rattle.machine_model.specs.Machine.{low_bytes, with_store, with_written}
 use Rattle.machine_model.proofs.Ranges.{length-low_bytes}
 use Rattle.machine_model.proofs.Runs.{one_next}
 use Rattle.space_api.specs.Frames.{LacksFrames}
+use Rattle.space_api.specs.Outcomes.{EndsWrite}
 use Rattle.space_api.specs.declared.access.Access.{Access}
+use Rattle.space_api.specs.declared.access.Access.TheVariants as access
 use Rattle.space_api.proofs.Frames.{need_lacks, lacks_need, same_lacks}
 
 -- a word was fetched, so it may be
@@ -37,14 +40,43 @@ next_is m v next h d e =
     let run : Executes m next = record { instruction = Some v; decoded = d; next_is = e } in
     rw h run
 
+retiring : (next : Next) → IsRetiring next → (after : Machine) × (Retires after ≡ next)
+retiring (Retires after) h = (after, refl)
+retiring Calls h = absurd h
+retiring (Raises cause tval) h = absurd h
+
+would_retire : (m : Machine) (v : Inst) → can_fetch m ≡ true → Decodes (word_at_pc m) (Some v) →
+    IsRetiring (effect_of m (word_at_pc m) v) → WouldRetire m
+would_retire m v h d r =
+    let to = retiring (effect_of m (word_at_pc m) v) r in
+    (to.0, next_is m v (Retires to.0) h d to.1)
+
 pub step_does : (end : StepEnd) (m after : Machine) (v : Inst) → can_fetch m ≡ true →
     Decodes (word_at_pc m) (Some v) → DoesNext end after (effect_of m (word_at_pc m) v) →
     StepDoes end m after
 step_does Retired m after v h d e = next_is m v _ h d (sym e)
 step_does Call m after v h d e = next_is m v _ h d (sym e)
 step_does (Trap cause tval) m after v h d e = next_is m v _ h d (sym e)
-step_does NeedFrames m after v h d e = tt
-step_does Memory m after v h d e = tt
+step_does NeedFrames m after v h d e = would_retire m v h d e
+step_does Memory m after v h d e = would_retire m v h d e
+
+-- a write that wants frames or memory is allowed
+allowed_by : (cause : ℕ) (failing : Option ℕ) (after : Machine) → failing ≡ None →
+    IsRetiring (unless_failing cause failing (Retires after))
+allowed_by cause None after e = tt
+allowed_by cause (Some a) after e = cc
+
+pub store_retires : (m : Machine) (op : StoreOp) (at value n : ℕ) → n ≡ store_size op →
+    least_failing (is_writable m) at n ≡ None → IsRetiring (stores m op at value)
+store_retires m op at value n size e =
+    allowed_by store_page_fault (least_failing (is_writable m) at (store_size op)) _
+    (sym (ap (least_failing (is_writable m) at) size) ∙ e)
+
+pub memory_passes : {T : Type 0} (lacks : Bool) (cause : ℕ) (failing : Option ℕ)
+    (r : Result T Access) → r ≡ Err access.Memory → EndsWrite lacks cause failing r →
+    failing ≡ None
+memory_passes lacks cause None r e ends = refl
+memory_passes lacks cause (Some a) r e ends = cc
 
 -- ---- which instructions lack frames
 

@@ -15,14 +15,18 @@ use Rattle.space_api.specs.Frames.{need, LacksFrames}
 
 -- ---- a step
 
+-- the next instruction would retire
+abbrev pub WouldRetire : Machine → Type 0
+WouldRetire m = (after : Machine) × IsNext m (Retires after)
+
 -- The step leads from the one machine to the other as the next instruction does. Where frames or
--- memory are wanted, the instruction isn't done.
+-- memory are wanted, the instruction isn't done, and would retire.
 abbrev pub StepDoes : StepEnd → (old new : Machine) → Type 0
 StepDoes Retired old new = IsNext old (Retires new)
 StepDoes Call old new = IsNext old Calls
 StepDoes (Trap cause tval) old new = IsNext old (Raises cause tval)
-StepDoes NeedFrames old new = Unit {0}
-StepDoes Memory old new = Unit {0}
+StepDoes NeedFrames old new = WouldRetire old
+StepDoes Memory old new = WouldRetire old
 
 -- in all ends but Retired
 abbrev pub UnlessRetired : StepEnd → Type 0 → Type 0
@@ -41,13 +45,18 @@ pub record WantsFrames (takes : Bool) (spares : ℕ) (m : Machine) : Type 0 wher
 
 -- ---- a step whose instruction is known
 
+abbrev pub IsRetiring : Next → Type 0
+IsRetiring (Retires after) = Unit {0}
+IsRetiring Calls = ⊥
+IsRetiring (Raises cause tval) = ⊥
+
 -- the instruction does this, by how the step ended
 abbrev pub DoesNext : StepEnd → (after : Machine) → Next → Type 0
 DoesNext Retired after next = next ≡ Retires after
 DoesNext Call after next = next ≡ Calls
 DoesNext (Trap cause tval) after next = next ≡ Raises cause tval
-DoesNext NeedFrames after next = Unit {0}
-DoesNext Memory after next = Unit {0}
+DoesNext NeedFrames after next = IsRetiring next
+DoesNext Memory after next = IsRetiring next
 
 -- the instruction stores where it may, and that needs more frames than there are spares
 abbrev pub Lacks : (takes : Bool) → (spares : ℕ) → Machine → Inst → Type 0
