@@ -1,6 +1,6 @@
 -- What an event leaves as it is: requests and contexts that it doesn't name, and closed requests.
-use Rattle.std.proofs.Common.{◌≡◌, ◌≢◌, ℕ, ◌+◌, ◌==◌, Bool, true, false, List, [], ◌∷◌, ◌++◌}
-use Rattle.std.proofs.Common.{Option, None, Some, length, refl, sym, ◌∙◌, ap, subst, arith}
+use Rattle.std.proofs.Common.{◌≡◌, ◌≢◌, ℕ, ◌+◌, ◌==◌, Bool, true, false, List, [], ◌∷◌}
+use Rattle.std.proofs.Common.{Option, None, Some, length, refl, sym, ◌∙◌, ap}
 use Rattle.std.proofs.lemmas.Option.{none-some, same_Some}
 use Rattle.journal_model.specs.Extents.{Extents}
 use Rattle.journal_model.specs.State.{State, numbered}

@@ -1,14 +1,14 @@
 -- What stands under a number of a list to which one was added, or of which one was changed.
 use Rattle.std.proofs.Common.{◌≡◌, ◌≢◌, ℕ, ◌+◌, ◌-◌, ◌==◌, Bool, true, false, cond, suc, zero}
 use Rattle.std.proofs.Common.{List, [], ◌∷◌, ◌++◌, length, Option, None, Some, refl, sym, ◌∙◌, ap}
-use Rattle.std.proofs.Common.{arith, subst}
+use Rattle.std.proofs.Common.{arith}
 use Rattle.std.specs.List.{slice_get}
 use Rattle.std.proofs.lemmas.Option.{none-some, same_Some}
 use Rattle.journal_model.specs.State.{numbered}
 use Rattle.journal_model.specs.Legal.{with_change}
 use Rattle.journal_model.proofs.Recents.{same, differ}
 use Rattle.std.specs.Prelude.{option_and_then}
-use Rattle.journal_model.proofs.Looks.{look, changed, look_other, set_some}
+use Rattle.journal_model.proofs.Looks.{changed, look_other, set_some}
 
 all_of : {A : Type 0} (o : Option A) → option_and_then (λ x. Some x) o ≡ o
 all_of None = refl
@@ -20,7 +20,7 @@ pub changed_other : {A : Type 0} (f : A → A) (n m : ℕ) (xs : List A) → m �
 changed_other f n m xs h = sym (all_of (numbered (changed f n xs) m))
     ∙ (look_other (λ x. Some x) f n m xs h ∙ all_of (numbered xs m))
 
-changed_at : {A : Type 0} (f : A → A) (n : ℕ) (xs : List A) (x : A) (o : Option A) →
+pub changed_at : {A : Type 0} (f : A → A) (n : ℕ) (xs : List A) (x : A) (o : Option A) →
     numbered xs n ≡ o → o ≡ Some x → numbered (with_change f n xs o) n ≡ Some (f x)
 changed_at f n xs x None e h = absurd (none-some x h)
 changed_at f n xs x (Some y) e h =

@@ -1,14 +1,11 @@
 -- Stacks without doubles: what stands above a place, and what is kept.
-use Rattle.std.proofs.Common.{◌≡◌, ◌≢◌, ℕ, ◌+◌, ◌-◌, ◌<◌, ◌==◌, Bool, true, false, cond, suc, zero}
-use Rattle.std.proofs.Common.{List, [], ◌∷◌, length, Option, None, Some, refl, sym, ◌∙◌, ap, arith}
+use Rattle.std.proofs.Common.{◌≡◌, ℕ, ◌+◌, ◌<◌, ◌==◌, Bool, true, false, cond, suc, zero}
+use Rattle.std.proofs.Common.{List, [], ◌∷◌, Option, None, Some, refl, sym, ◌∙◌, ap, arith}
 use Rattle.std.proofs.Common.{subst, inl, inr, ◌⊎◌}
 use Rattle.std.specs.List.{slice_get}
 use Rattle.std.proofs.lemmas.Option.{none-some, same_Some}
 use Rattle.journal_model.specs.State.{contains, layer_above, highest_kept, highest_of}
 use Rattle.journal_model.specs.Bounds.{IsDistinct, Has}
-use Rattle.std.specs.Prelude.{All}
-use Rattle.journal_model.specs.Bounds.{IsSized}
-use Rattle.journal_model.specs.Extents.{Extents, Stack}
 use Rattle.journal_laws.specs.Stacks.{IsHighest, IsNoneKept, IsRising, RisesFrom}
 use Rattle.journal_model.proofs.Recents.{same, differ}
 

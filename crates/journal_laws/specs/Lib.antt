@@ -1,2 +1,4 @@
+pub mod Rests
+pub mod Served
 pub mod Stacks
 pub mod Sums

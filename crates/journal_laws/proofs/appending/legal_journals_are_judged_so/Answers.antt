@@ -1,5 +1,5 @@
-use Rattle.std.proofs.Common.{◌≡◌, ◌∙◌, ap, subst}
-use Rattle.journal_model.specs.Legal.{at_first, IsLegal, totals}
+use Rattle.std.proofs.Common.{◌∙◌, ap, subst}
+use Rattle.journal_model.specs.Legal.{at_first}
 use Rattle.journal_model.specs.declared.state.Judged.{Judged}
 use Rattle.journal_model.specs.declared.state.Judged.TheVariants.{Legal}
 use Rattle.journal_model.proofs.Folds.{says, Says}

@@ -1,0 +1,60 @@
+//! What holds of every state that a journal reaches.
+
+ghost use Rattle.std.specs.Prelude.{◌≡◌, ◌↔◌, ◌+◌, ◌≤◌, ◌<◌, ℕ, List, ◌++◌, ◌∷◌, [], Some, None};
+ghost use Rattle.std.specs.Prelude.{length, true};
+ghost use Rattle.journal_model.specs.Extents.{Extents};
+ghost use Rattle.journal_model.specs.State.{State, numbered, contains};
+ghost use Rattle.journal_model.specs.Legal.{after, after_all, at_first, is_open, given_to};
+ghost use Rattle.journal_model.specs.Legal.{serves, answered_by};
+ghost use Rattle.journal_model.specs.Reads.{served, earlier, service_of, place_at_end, answer_from};
+ghost use Rattle.journal_model.specs.declared.event.Event.{Event};
+ghost use Rattle.journal_model.specs.declared.event.Event.TheVariants.{Answer};
+ghost use Rattle.journal_model.specs.declared.state.RequestState.{RequestState};
+ghost use Rattle.journal_model.specs.declared.state.ContextState.{ContextState};
+ghost use Rattle.journal_model.specs.declared.state.Duty.TheVariants.{Idle};
+ghost use Rattle.journal_laws.specs.Rests.{IsRested};
+ghost use Rattle.journal_laws.specs.Served.{with_answer};
+
+/// No more contexts are drawn than requests started.
+pub fn contexts_are_few()
+    ensures { (sizes : Extents) (events : List Event) (s : State) →
+        after_all sizes (at_first sizes) events ≡ Some s →
+        length s.contexts ≤ length s.requests }
+{}
+
+/// An open request was given a context exactly where that context serves it; and was given it when
+/// it had answered as many requests as it has now, so that the earlier ones are all that it served.
+pub fn open_requests_are_served()
+    ensures served { (sizes : Extents) (events : List Event) (s : State) (i c : ℕ) →
+        after_all sizes (at_first sizes) events ≡ Some s → is_open s i ≡ true →
+        (given_to s i ≡ Some c) ↔ (serves s c i ≡ true) }
+    ensures earlier { (sizes : Extents) (events : List Event) (s : State) (i c : ℕ) →
+        after_all sizes (at_first sizes) events ≡ Some s → is_open s i ≡ true →
+        given_to s i ≡ Some c → earlier s i ≡ served s c }
+{}
+
+/// The idle contexts are those in the list. Each answered a request at least and fewer than it may,
+/// and stands where it stood when it answered the last.
+pub fn idle_contexts_are_listed()
+    ensures listed { (sizes : Extents) (events : List Event) (s : State) (c : ℕ) →
+        after_all sizes (at_first sizes) events ≡ Some s →
+        (contains c s.idle ≡ true)
+        ↔ ((x : ContextState) × (numbered s.contexts c ≡ Some x) × (x.duty ≡ Idle)) }
+    ensures rested { (sizes : Extents) (events : List Event) (s : State) (c : ℕ) →
+        after_all sizes (at_first sizes) events ≡ Some s → contains c s.idle ≡ true →
+        IsRested sizes.uses s.requests s.contexts c }
+{}
+
+/// A context answered one request after as many others as are fewer than it answered in all, and
+/// none after more; with an answer what it served grows by that request, and with no other event.
+pub fn contexts_serve_in_order()
+    ensures each { (sizes : Extents) (events : List Event) (s : State) (c v : ℕ) →
+        after_all sizes (at_first sizes) events ≡ Some s → v < answered_by s c →
+        (i : ℕ) × (answer_from c v 1 s.requests ≡ Some i) }
+    ensures none { (sizes : Extents) (events : List Event) (s : State) (c v : ℕ) →
+        after_all sizes (at_first sizes) events ≡ Some s → answered_by s c ≤ v →
+        answer_from c v 1 s.requests ≡ None }
+    ensures grows { (sizes : Extents) (events : List Event) (s t : State) (e : Event) (c : ℕ) →
+        after_all sizes (at_first sizes) events ≡ Some s → after sizes s e ≡ Some t →
+        served t c ≡ with_answer c e (served s c) }
+{}
