@@ -1,4 +1,3 @@
-pub mod Giving
 pub mod Placing
 pub mod Visits
 pub mod Worked

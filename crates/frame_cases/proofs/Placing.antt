@@ -1,225 +1,395 @@
--- One mid table more below the root.
-use Rattle.std.proofs.Common.{◌≡◌, ℕ, ◌+◌, ◌<◌, ◌≤◌, ◌≢◌, List, [], ◌∷◌, ◌++◌, length, get_or, set, refl, sym, ap, subst, ◌∙◌, inl, inr, ⊎_elim, arith, length-set, get_or-set_other, get_or-set_same}
-use Rattle.std.proofs.lemmas.Bool.{cases_eq, cases_lt}
-use Rattle.frame_model.specs.declared.kind.Kind.TheVariants.{Mid, Root}
-use Rattle.frame_model.specs.declared.view.Known.{Known}
+-- One mid table more below the root, and a leaf table below it.
+use Rattle.std.proofs.Common.{◌≡◌, ℕ, ◌+◌, ◌<◌, ◌≤◌, ◌≢◌, ◌⊎◌, List, [], ◌∷◌, length, get_or}
+use Rattle.std.proofs.Common.{refl, sym, ap, subst, ◌∙◌, inl, inr, ⊎_elim, arith}
+use Rattle.std.proofs.lemmas.Bool.{cases_eq}
+use Rattle.frame_model.specs.declared.kind.Kind.{Kind}
+use Rattle.frame_model.specs.declared.kind.Kind.TheVariants.{Leaf, Mid, Root}
 use Rattle.frame_model.specs.declared.view.View.{View}
-use Rattle.frame_model.specs.Words.{kind_number, target}
-use Rattle.frame_model.specs.Views.{Has, blank_words, forget, known_of, kind_of, words_of, word_of, targets, targets_of, children, part_of, IsLoose, numbers_below, first_view, whole_stake}
+use Rattle.frame_model.specs.Words.{kind_number, target, IsPointer}
+use Rattle.frame_model.specs.Views.{Has, known_of, kind_of, words_of, word_of, targets}
+use Rattle.frame_model.specs.Views.{targets_of, children, part_of, IsLoose, numbers_below}
+use Rattle.frame_model.specs.Views.{first_view}
 use Rattle.frame_model.proofs.Opening.{blank_length, blank_word, has_numbers, numbers_has}
-use Rattle.frame_model.proofs.Reach.{has_by_kind, by_kind_has, has_targets, targets_has, targets_zero, has_children, known_here, known_else, forget_else}
+use Rattle.frame_model.proofs.Reach.{has_by_kind, by_kind_has, has_targets, targets_has}
+use Rattle.frame_model.proofs.Reach.{has_children}
 use Rattle.frame_words.specs.Steps.{dressed, IsClear}
 use Rattle.frame_steps.specs.Counted.{entered, MayStand, HasRoom, gained}
-use Rattle.frame_steps.proofs.Links.{targets_none, less_entry}
-use Rattle.frame_cases.specs.Mids.{pointer_to, HasEntries, IsPlaced}
-use Rattle.frame_cases.proofs.Giving.{gained_plain, not_named, less_here}
+use Rattle.frame_views.proofs.Giving.{fresh_gained, less_here}
+use Rattle.frame_views.proofs.NewPages.{dressed_kind_here, dressed_kind_else, dressed_words}
+use Rattle.frame_views.proofs.NewPages.{entered_owned, entered_stake, entered_kind, entered_length}
+use Rattle.frame_views.proofs.NewPages.{entered_word_here, entered_word_else}
+use Rattle.frame_views.proofs.NewParts.{new_entry}
+use Rattle.frame_cases.specs.Mids.{pointer_to, mid_at, leaf_at, HasEntries, IsPlaced}
 
-pub pointer_target : (g : ℕ) → g < 513 → target (pointer_to g) ≡ g
+pub pointer_target : (g : ℕ) → g < 1025 → target (pointer_to g) ≡ g
 pointer_target g lt = omega arith
 
-no_blank_targets : targets blank_words ≡ []
-no_blank_targets = targets_zero blank_words (λ i lt. blank_word i)
+pub pointer_form : (g : ℕ) → g < 1025 → IsPointer (pointer_to g)
+pointer_form g lt = record { size = omega arith; valid = omega arith; software = omega arith }
 
--- what the root's entries name is a child of the root
-pub entry_child : (v : View) → HasEntries 512 v → (j : ℕ) → j < 512 → Has (j + 1) (targets_of (known_of v.known 0))
+pub pointer_some : (g : ℕ) → pointer_to g ≡ 0 → ⊥
+pointer_some g e = absurd (omega arith)
+
+-- a table names what its word points to
+pub word_child : (v : View) (f j g : ℕ) → 0 < kind_number (kind_of v f)
+    → length (words_of v f) ≡ 512 → j < 512 → g < 1025 → word_of v f j ≡ pointer_to g
+    → Has g (targets_of (known_of v.known f))
+word_child v f j g table whole lt small is =
+    let there = targets_has (words_of v f) j (omega arith) (λ z. pointer_some g (sym is ∙ z)) in
+    by_kind_has (kind_of v f) (words_of v f) g table
+    (subst (λ (x : ℕ). Has x (targets (words_of v f))) (ap target is ∙ pointer_target g small) there)
+
+pub entry_child : (v : View) → HasEntries 512 v → (j : ℕ) → j < 512
+    → Has (mid_at j) (targets_of (known_of v.known 0))
 entry_child v e j lt =
-    let word = e.placed j lt lt in
-    let len = e.whole in
-    let there = targets_has (words_of v 0) j (omega arith) (λ z. let w : pointer_to (j + 1) ≡ 0 = sym word ∙ z in absurd (omega arith)) in
-    let named : Has (j + 1) (targets (words_of v 0)) = subst (λ (x : ℕ). Has x (targets (words_of v 0))) (ap target word ∙ pointer_target (j + 1) (omega arith)) there in
     let kind = ap kind_number e.root in
-    by_kind_has (kind_of v 0) (words_of v 0) (j + 1) (omega arith) named
+    word_child v 0 j (mid_at j) (omega arith) e.whole lt (omega arith) (e.named j lt)
 
--- only placed tables are children of what is owned
-pub child_of : (i : ℕ) (v : View) → IsPlaced i v → (x : ℕ) → Has x (children v.known v.owned) → (1 ≤ x) × (x ≤ i)
-child_of i v p x h =
+-- only mid tables and leaf tables that were placed are children of what is owned
+pub child_of : (i w : ℕ) (v : View) → IsPlaced i w v → i ≤ 512 → w ≤ 512 → (x : ℕ)
+    → Has x (children v.known v.owned)
+    → (k : ℕ) × (((k < i) × (x ≡ mid_at k)) ⊎ ((k < w) × (x ≡ leaf_at k)))
+child_of i w v p li lw x h =
     let t = has_children v.known v.owned x h in
-    let inside = has_numbers 513 t.0 (subst (λ (xs : List ℕ). Has t.0 xs) p.owned t.1) in
+    let inside = has_numbers 1025 t.0 (subst (λ (xs : List ℕ). Has t.0 xs) p.owned t.1) in
     let k = has_by_kind (kind_of v t.0) (words_of v t.0) x t.2 in
-    ⊎_elim
-    (λ (e : t.0 ≡ 0).
-    let q = has_targets (words_of v 0) x (subst (λ (f : ℕ). Has x (targets (words_of v f))) e k.1) in
-    let len = p.entries.whole in
+    let q = has_targets (words_of v t.0) x k.1 in
+    let len = p.whole t.0 inside in
     let lt : q.0 < 512 = omega (arith, q.1) in
     ⊎_elim
-    (λ (below : q.0 < i).
-    let is : x ≡ q.0 + 1 = sym q.3 ∙ ap target (p.entries.placed q.0 below lt) ∙ pointer_target (q.0 + 1) (omega arith) in
-    (omega arith, omega arith))
-    (λ (above : i ≤ q.0). absurd (q.2 (p.rest q.0 above lt)))
-    (cases_lt q.0 i))
-    (λ (ne : t.0 ≡ 0 → ⊥).
-    let none = ap targets (p.blank t.0 (omega arith) inside) ∙ no_blank_targets in
-    absurd (subst (λ (xs : List ℕ). Has x xs) none k.1))
-    (cases_eq t.0 0)
+    (λ (a : (q.0 < i) × (t.0 ≡ 0)).
+    let small = a.0 in
+    let word = ap (λ (f : ℕ). word_of v f q.0) a.1 ∙ p.entries.named q.0 a.0 in
+    (q.0, inl (a.0, sym q.3 ∙ ap target word ∙ pointer_target (mid_at q.0) (omega arith))))
+    (λ (a : (q.0 < w) × (t.0 ≡ mid_at q.0)).
+    let small = a.0 in
+    let word = ap (λ (f : ℕ). word_of v f q.0) a.1 ∙ p.leaves q.0 a.0 in
+    (q.0, inr (a.0, sym q.3 ∙ ap target word ∙ pointer_target (leaf_at q.0) (omega arith))))
+    (p.rest t.0 q.0 inside lt q.2)
 
-module _ (i : ℕ) (v : View) (p : IsPlaced i v) (lt : i < 512) where
-  abbrev g : ℕ
-  g = i + 1
+-- ---- a kind
 
-  owns : (f : ℕ) → f < 513 → Has f v.owned
-  owns f h = subst (λ (xs : List ℕ). Has f xs) (sym p.owned) (numbers_has 513 f h)
+module _ (i w : ℕ) (v : View) (p : IsPlaced i w v) (li : i ≤ 512) (lw : w ≤ 512) where
+  pub owns : (f : ℕ) → f < 1025 → Has f v.owned
+  owns f h = subst (λ (xs : List ℕ). Has f xs) (sym p.owned) (numbers_has 1025 f h)
 
-  no_reference : (f : ℕ) → Has f v.references → ⊥
+  pub no_reference : (f : ℕ) → Has f v.references → ⊥
   no_reference f h = subst (λ (xs : List ℕ). Has f xs) p.references h
 
-  pub mid_loose : IsLoose v g
-  mid_loose = record {
-    owned = owns g (omega arith);
-    unreferred = no_reference g;
-    unnamed = λ h. let c = child_of i v p g h in absurd (omega (arith, c.1));
+  -- what wasn't placed has no name
+  pub unplaced : (f : ℕ) → ((k : ℕ) → k < i → f ≢ mid_at k) → ((k : ℕ) → k < w → f ≢ leaf_at k)
+      → Has f (children v.known v.owned) → ⊥
+  unplaced f no_mid no_leaf h =
+      let c = child_of i w v p li lw f h in
+      ⊎_elim
+      (λ (a : (c.0 < i) × (f ≡ mid_at c.0)). no_mid c.0 a.0 a.1)
+      (λ (a : (c.0 < w) × (f ≡ leaf_at c.0)). no_leaf c.0 a.0 a.1)
+      c.1
+
+  pub loose : (f : ℕ) → f < 1025 → ((k : ℕ) → k < i → f ≢ mid_at k)
+      → ((k : ℕ) → k < w → f ≢ leaf_at k) → IsLoose v f
+  loose f lt no_mid no_leaf = record {
+    owned = owns f lt;
+    unreferred = no_reference f;
+    unnamed = unplaced f no_mid no_leaf;
   }
 
-  pub mid_clear : IsClear v g
-  mid_clear j k = ap (λ (ws : List ℕ). get_or ws j 0) (p.blank g (omega arith) (omega arith)) ∙ blank_word j
+  pub clear : (f : ℕ) → f < 1025 → f ≢ 0 → ((k : ℕ) → k < w → f ≢ mid_at k) → IsClear v f
+  clear f lt ne no_mid k lk = ⊎_elim
+      (λ (z : word_of v f k ≡ 0). z)
+      (λ (some : word_of v f k ≡ 0 → ⊥). absurd (⊎_elim
+      (λ (a : (k < i) × (f ≡ 0)). ne a.1)
+      (λ (a : (k < w) × (f ≡ mid_at k)). no_mid k a.0 a.1)
+      (p.rest f k lt lk some)))
+      (cases_eq (word_of v f k) 0)
 
-  -- ---- dressed
+  -- a frame that is no table yet gets a kind
+  pub dressed_placed : (f : ℕ) (kind : Kind) → f ≢ 0 → ((k : ℕ) → k < w → f ≢ mid_at k)
+      → IsPlaced i w (dressed v f kind)
+  dressed_placed f kind ne no_mid =
+      let word : (g k : ℕ) → word_of (dressed v f kind) g k ≡ word_of v g k =
+      λ g k. ap (λ (ws : List ℕ). get_or ws k 0) (dressed_words v f kind g) in
+      let len : (g : ℕ) → length (words_of (dressed v f kind) g) ≡ length (words_of v g) =
+      λ g. ap (λ (ws : List ℕ). length ws) (dressed_words v f kind g) in
+      record {
+        owned = p.owned;
+        references = p.references;
+        stake = p.stake;
+        whole = λ g lt. len g ∙ p.whole g lt;
+        entries = record {
+          root = dressed_kind_else v f kind 0 (λ e. ne (sym e)) ∙ p.entries.root;
+          whole = len 0 ∙ p.entries.whole;
+          named = λ j lt. word 0 j ∙ p.entries.named j lt;
+        };
+        mids = λ j lt. dressed_kind_else v f kind (mid_at j) (λ e. no_mid j lt (sym e)) ∙ p.mids j lt;
+        leaves = λ j lt. word (mid_at j) j ∙ p.leaves j lt;
+        rest = λ g k lg lk some. p.rest g k lg lk (λ z. some (word g k ∙ z));
+      }
+
+-- ---- a leaf table below a mid table, and the mid table below the root
+
+module _ (i : ℕ) (v : View) (p : IsPlaced i i v) (lt : i < 512) where
+  abbrev mid : ℕ
+  mid = i + 1
+
+  abbrev leaf : ℕ
+  leaf = i + 513
+
+  not_placed : (k : ℕ) → k < i → mid ≢ mid_at k
+  not_placed k h e = absurd (omega arith)
+
+  pub mid_loose : IsLoose v mid
+  mid_loose = loose i i v p (omega arith) (omega arith) mid (omega arith) not_placed
+      (λ k h e. absurd (omega arith))
+
+  pub mid_clear : IsClear v mid
+  mid_clear = clear i i v p (omega arith) (omega arith) mid (omega arith) (λ e. absurd (omega arith))
+      not_placed
 
   abbrev v1 : View
-  v1 = dressed v g Mid
+  v1 = dressed v mid Mid
 
-  abbrev page1 : Known
-  page1 = record { frame = g; kind = Mid; words = words_of v g }
+  pub placed1 : IsPlaced i i v1
+  placed1 = dressed_placed i i v p (omega arith) (omega arith) mid Mid (λ e. absurd (omega arith))
+      not_placed
 
-  here1 : known_of v1.known g ≡ page1
-  here1 = known_here page1 (forget g v.known) g refl
+  pub leaf_loose : IsLoose v1 leaf
+  leaf_loose = loose i i v1 placed1 (omega arith) (omega arith) leaf (omega arith)
+      (λ k h e. absurd (omega arith)) (λ k h e. absurd (omega arith))
 
-  else1 : (f : ℕ) → f ≢ g → known_of v1.known f ≡ known_of v.known f
-  else1 f ne = known_else page1 (forget g v.known) f (λ e. ne (sym e)) ∙ forget_else v.known g f (λ e. ne (sym e))
-
-  root1 : known_of v1.known 0 ≡ known_of v.known 0
-  root1 = else1 0 (λ e. absurd (omega arith))
-
-  placed1 : IsPlaced i v1
-  placed1 = record {
-    owned = p.owned;
-    references = p.references;
-    stake = p.stake;
-    entries = record {
-      root = ap (λ (k : Known). k.kind) root1 ∙ p.entries.root;
-      whole = ap (λ (k : Known). length k.words) root1 ∙ p.entries.whole;
-      placed = λ j a b. ap (λ (k : Known). get_or k.words j 0) root1 ∙ p.entries.placed j a b;
-    };
-    rest = λ j a b. ap (λ (k : Known). get_or k.words j 0) root1 ∙ p.rest j a b;
-    mids = λ f a b. ap (λ (k : Known). k.kind) (else1 f (λ e. absurd (omega arith))) ∙ p.mids f a b;
-    blank = λ f a b. ⊎_elim
-        (λ (e : f ≡ g). ap (λ (x : ℕ). words_of v1 x) e ∙ ap (λ (k : Known). k.words) here1 ∙ p.blank g (omega arith) (omega arith))
-        (λ (ne : f ≢ g). ap (λ (k : Known). k.words) (else1 f ne) ∙ p.blank f a b)
-        (cases_eq f g);
-  }
-
-  -- ---- referred to
+  pub leaf_clear : IsClear v1 leaf
+  leaf_clear = clear i i v1 placed1 (omega arith) (omega arith) leaf (omega arith)
+      (λ e. absurd (omega arith)) (λ k h e. absurd (omega arith))
 
   abbrev v2 : View
-  v2 = part_of v1 v.owned (g ∷ v.references) v.stake
+  v2 = dressed v1 leaf Leaf
 
-  pub mid_gained : gained v1 g ≡ v2
-  mid_gained = gained_plain v1 g (not_named v1 g (no_reference g) (λ h. let c = child_of i v1 placed1 g h in absurd (omega (arith, c.1))))
+  pub placed2 : IsPlaced i i v2
+  placed2 = dressed_placed i i v1 placed1 (omega arith) (omega arith) leaf Leaf
+      (λ e. absurd (omega arith)) (λ k h e. absurd (omega arith))
 
-  -- ---- named
+  leaf_kind : kind_of v2 leaf ≡ Leaf
+  leaf_kind = dressed_kind_here v1 leaf Leaf
 
-  abbrev w : ℕ
-  w = pointer_to g
+  mid_kind : kind_of v2 mid ≡ Mid
+  mid_kind = dressed_kind_else v1 leaf Leaf mid (λ e. absurd (omega arith)) ∙ dressed_kind_here v mid Mid
 
-  pub root_owned : Has 0 v2.owned
-  root_owned = owns 0 (omega arith)
+  pub leaf_owned : Has leaf v2.owned
+  leaf_owned = owns i i v2 placed2 (omega arith) (omega arith) leaf (omega arith)
 
-  root_kind : kind_of v2 0 ≡ Root
-  root_kind = placed1.entries.root
+  abbrev v3 : View
+  v3 = part_of v2 v2.owned (leaf ∷ v2.references) v2.stake
 
-  pub root_table : 0 < kind_number (kind_of v2 0)
-  root_table = let e = ap kind_number root_kind in omega arith
+  pub leaf_gained : gained v2 leaf ≡ v3
+  leaf_gained = fresh_gained v2 leaf (no_reference i i v2 placed2 (omega arith) (omega arith) leaf)
+      (unplaced i i v2 placed2 (omega arith) (omega arith) leaf
+      (λ k h e. absurd (omega arith)) (λ k h e. absurd (omega arith)))
 
-  names_mid : target w ≡ g
-  names_mid = pointer_target g (omega arith)
+  pub mid_owned : Has mid v3.owned
+  mid_owned = owns i i v2 placed2 (omega arith) (omega arith) mid (omega arith)
 
-  pub pointer_stands : MayStand v2 0 w
-  pointer_stands =
-      let k : kind_number (kind_of v2 0) ≡ 3 = ap kind_number root_kind in
-      let b : kind_number (kind_of v2 (target w)) ≡ 2 = ap (λ (x : ℕ). kind_number (kind_of v1 x)) names_mid ∙ ap (λ (q : Known). kind_number q.kind) here1 in
+  pub mid_table : 0 < kind_number (kind_of v3 mid)
+  mid_table = let e = ap kind_number mid_kind in omega arith
+
+  pub leaf_stands : MayStand v3 mid (pointer_to leaf)
+  leaf_stands =
+      let k : kind_number (kind_of v3 mid) ≡ 2 = ap kind_number mid_kind in
+      let names : target (pointer_to leaf) ≡ leaf = pointer_target leaf (omega arith) in
+      let b : kind_number (kind_of v3 (target (pointer_to leaf))) ≡ 1 =
+      ap (λ (x : ℕ). kind_number (kind_of v2 x)) names ∙ ap kind_number leaf_kind in
       inr (record {
         form = record {
           leaf = λ one. absurd (omega arith);
-          above = λ _. record { size = omega arith; valid = omega arith; software = omega arith };
+          above = λ _. pointer_form leaf (omega arith);
         };
         below = omega arith;
-        referred = inl names_mid;
+        referred = inl names;
       })
 
-  pub pointer_room : HasRoom v2 0 i w
-  pointer_room z = absurd (omega arith)
+  pub leaf_room : HasRoom v3 mid i (pointer_to leaf)
+  leaf_room z = absurd (pointer_some leaf z)
 
-  abbrev v3 : View
-  v3 = entered v2 0 i w
+  abbrev v4 : View
+  v4 = entered v3 mid i (pointer_to leaf)
 
-  abbrev page3 : Known
-  page3 = record { frame = 0; kind = kind_of v1 0; words = set (words_of v1 0) i w }
+  mid_word : word_of v3 mid i ≡ 0
+  mid_word = clear i i v2 placed2 (omega arith) (omega arith) mid (omega arith)
+      (λ e. absurd (omega arith)) not_placed i lt
 
-  here3 : known_of v3.known 0 ≡ page3
-  unfolding entered
-  here3 = known_here page3 (forget 0 v1.known) 0 refl
+  references4 : v4.references ≡ []
+  references4 =
+      new_entry v3 mid i (pointer_to leaf) mid_word (pointer_some leaf)
+      ∙ less_here (target (pointer_to leaf)) leaf v2.references (pointer_target leaf (omega arith))
+      ∙ placed2.references
 
-  else3 : (f : ℕ) → f ≢ 0 → known_of v3.known f ≡ known_of v1.known f
-  unfolding entered
-  else3 f ne = known_else page3 (forget 0 v1.known) f (λ e. ne (sym e)) ∙ forget_else v1.known 0 f (λ e. ne (sym e))
-
-  old_word : word_of v1 0 i ≡ 0
-  old_word = placed1.rest i (omega arith) lt
-
-  references3 : v3.references ≡ []
-  unfolding entered
-  references3 =
-      (λ k. targets_none (word_of v1 0 i) old_word k ++ (less_entry w (g ∷ v.references) (λ z. absurd (omega arith)) ∙ less_here (target w) g v.references names_mid ∙ p.references) k)
-
-  owned3 : v3.owned ≡ numbers_below 513
-  unfolding entered
-  owned3 = p.owned
-
-  stake3 : v3.stake ≡ whole_stake
-  unfolding entered
-  stake3 = p.stake
-
-  pub mid_placed : IsPlaced (i + 1) v3
-  mid_placed =
-      let len = placed1.entries.whole in
+  pub leaf_placed : IsPlaced i (i + 1) v4
+  leaf_placed =
+      let x = pointer_to leaf in
+      let else_word = entered_word_else v3 mid i x in
       record {
-        owned = owned3;
-        references = references3;
-        stake = stake3;
+        owned = entered_owned v3 mid i x ∙ placed2.owned;
+        references = references4;
+        stake = entered_stake v3 mid i x ∙ placed2.stake;
+        whole = λ f lf. entered_length v3 mid i x f ∙ placed2.whole f lf;
         entries = record {
-          root = ap (λ (k : Known). k.kind) here3 ∙ placed1.entries.root;
-          whole = ap (λ (k : Known). length k.words) here3 ∙ length-set (words_of v1 0) i w ∙ len;
-          placed = λ j a b. ap (λ (k : Known). get_or k.words j 0) here3 ∙ ⊎_elim
-              (λ (e : j ≡ i). ap (λ (x : ℕ). get_or (set (words_of v1 0) i w) x 0) e ∙ get_or-set_same (words_of v1 0) i w 0 (omega arith) ∙ ap (λ (x : ℕ). pointer_to (x + 1)) (sym e))
-              (λ (ne : j ≢ i). get_or-set_other (words_of v1 0) i j w 0 ne ∙ placed1.entries.placed j (omega arith) b)
+          root = entered_kind v3 mid i x 0 ∙ placed2.entries.root;
+          whole = entered_length v3 mid i x 0 ∙ placed2.entries.whole;
+          named = λ j h. else_word 0 j (λ t. let q = t.0 in absurd (omega arith))
+              ∙ placed2.entries.named j h;
+        };
+        mids = λ j h. entered_kind v3 mid i x (mid_at j) ∙ ⊎_elim
+            (λ (e : j ≡ i). ap (λ (y : ℕ). kind_of v3 (mid_at y)) e ∙ mid_kind)
+            (λ (ne : j ≢ i). placed2.mids j (omega arith))
+            (cases_eq j i);
+        leaves = λ j h. ⊎_elim
+            (λ (e : j ≡ i).
+            let len = placed2.whole mid (omega arith) in
+            subst (λ (y : ℕ). word_of v4 (mid_at y) y ≡ pointer_to (leaf_at y)) (sym e)
+            (entered_word_here v3 mid i x (omega arith)))
+            (λ (ne : j ≢ i). else_word (mid_at j) j (λ t. ne t.1) ∙ placed2.leaves j (omega arith))
+            (cases_eq j i);
+        rest = λ f k lf lk some. ⊎_elim
+            (λ (e : k ≡ i). ⊎_elim
+            (λ (d : f ≡ mid). inr (omega arith, d ∙ ap mid_at (sym e)))
+            (λ (off : f ≢ mid). ⊎_elim
+            (λ (a : (k < i) × (f ≡ 0)). inl a)
+            (λ (a : (k < i) × (f ≡ mid_at k)). let q = a.0 in inr (omega arith, a.1))
+            (placed2.rest f k lf lk (λ z. some (else_word f k (λ t. off t.0) ∙ z))))
+            (cases_eq f mid))
+            (λ (ne : k ≢ i). ⊎_elim
+            (λ (a : (k < i) × (f ≡ 0)). inl a)
+            (λ (a : (k < i) × (f ≡ mid_at k)). let q = a.0 in inr (omega arith, a.1))
+            (placed2.rest f k lf lk (λ z. some (else_word f k (λ t. ne t.1) ∙ z))))
+            (cases_eq k i);
+      }
+
+module _ (i : ℕ) (v : View) (p : IsPlaced i (i + 1) v) (lt : i < 512) where
+  abbrev top : ℕ
+  top = i + 1
+
+  pub top_owned : Has top v.owned
+  top_owned = owns i (i + 1) v p (omega arith) (omega arith) top (omega arith)
+
+  abbrev w1 : View
+  w1 = part_of v v.owned (top ∷ v.references) v.stake
+
+  pub top_gained : gained v top ≡ w1
+  top_gained = fresh_gained v top (no_reference i (i + 1) v p (omega arith) (omega arith) top)
+      (unplaced i (i + 1) v p (omega arith) (omega arith) top
+      (λ k h e. absurd (omega arith)) (λ k h e. absurd (omega arith)))
+
+  pub root_owned : Has 0 w1.owned
+  root_owned = owns i (i + 1) v p (omega arith) (omega arith) 0 (omega arith)
+
+  pub root_table : 0 < kind_number (kind_of w1 0)
+  root_table = let e = ap kind_number p.entries.root in omega arith
+
+  pub top_stands : MayStand w1 0 (pointer_to top)
+  top_stands =
+      let k : kind_number (kind_of w1 0) ≡ 3 = ap kind_number p.entries.root in
+      let names : target (pointer_to top) ≡ top = pointer_target top (omega arith) in
+      let b : kind_number (kind_of w1 (target (pointer_to top))) ≡ 2 =
+      ap (λ (x : ℕ). kind_number (kind_of v x)) names ∙ ap kind_number (p.mids i (omega arith)) in
+      inr (record {
+        form = record {
+          leaf = λ one. absurd (omega arith);
+          above = λ _. pointer_form top (omega arith);
+        };
+        below = omega arith;
+        referred = inl names;
+      })
+
+  pub top_room : HasRoom w1 0 i (pointer_to top)
+  top_room z = absurd (pointer_some top z)
+
+  abbrev w2 : View
+  w2 = entered w1 0 i (pointer_to top)
+
+  root_word : word_of w1 0 i ≡ 0
+  root_word = ⊎_elim
+      (λ (z : word_of v 0 i ≡ 0). z)
+      (λ (some : word_of v 0 i ≡ 0 → ⊥). ⊎_elim
+      (λ (a : (i < i) × (0 ≡ 0)). let q = a.0 in absurd (omega arith))
+      (λ (a : (i < i + 1) × (0 ≡ mid_at i)). let q = a.1 in absurd (omega arith))
+      (p.rest 0 i (omega arith) lt some))
+      (cases_eq (word_of v 0 i) 0)
+
+  references2 : w2.references ≡ []
+  references2 =
+      new_entry w1 0 i (pointer_to top) root_word (pointer_some top)
+      ∙ less_here (target (pointer_to top)) top v.references (pointer_target top (omega arith))
+      ∙ p.references
+
+  pub top_placed : IsPlaced (i + 1) (i + 1) w2
+  top_placed =
+      let x = pointer_to top in
+      let else_word = entered_word_else w1 0 i x in
+      record {
+        owned = entered_owned w1 0 i x ∙ p.owned;
+        references = references2;
+        stake = entered_stake w1 0 i x ∙ p.stake;
+        whole = λ f lf. entered_length w1 0 i x f ∙ p.whole f lf;
+        entries = record {
+          root = entered_kind w1 0 i x 0 ∙ p.entries.root;
+          whole = entered_length w1 0 i x 0 ∙ p.entries.whole;
+          named = λ j h. ⊎_elim
+              (λ (e : j ≡ i).
+              let len = p.entries.whole in
+              subst (λ (y : ℕ). word_of w2 0 y ≡ pointer_to (mid_at y)) (sym e)
+              (entered_word_here w1 0 i x (omega arith)))
+              (λ (ne : j ≢ i). else_word 0 j (λ t. ne t.1) ∙ p.entries.named j (omega arith))
               (cases_eq j i);
         };
-        rest = λ j a b. ap (λ (k : Known). get_or k.words j 0) here3 ∙ get_or-set_other (words_of v1 0) i j w 0 (λ e. absurd (omega arith)) ∙ placed1.rest j (omega arith) b;
-        mids = λ f a b. ap (λ (k : Known). k.kind) (else3 f (λ e. absurd (omega arith))) ∙ ⊎_elim
-            (λ (e : f ≡ g). ap (λ (x : ℕ). kind_of v1 x) e ∙ ap (λ (k : Known). k.kind) here1)
-            (λ (ne : f ≢ g). placed1.mids f a (omega arith))
-            (cases_eq f g);
-        blank = λ f a b. ap (λ (k : Known). k.words) (else3 f (λ e. absurd (omega arith))) ∙ placed1.blank f a b;
+        mids = λ j h. entered_kind w1 0 i x (mid_at j) ∙ p.mids j h;
+        leaves = λ j h.
+            else_word (mid_at j) j (λ t. let q = t.0 in absurd (omega arith)) ∙ p.leaves j h;
+        rest = λ f k lf lk some. ⊎_elim
+            (λ (e : k ≡ i). ⊎_elim
+            (λ (d : f ≡ 0). inl (omega arith, d))
+            (λ (off : f ≢ 0). ⊎_elim
+            (λ (a : (k < i) × (f ≡ 0)). absurd (off a.1))
+            (λ (a : (k < i + 1) × (f ≡ mid_at k)). inr a)
+            (p.rest f k lf lk (λ z. some (else_word f k (λ t. off t.0) ∙ z))))
+            (cases_eq f 0))
+            (λ (ne : k ≢ i). ⊎_elim
+            (λ (a : (k < i) × (f ≡ 0)). let q = a.0 in inl (omega arith, a.1))
+            (λ (a : (k < i + 1) × (f ≡ mid_at k)). inr a)
+            (p.rest f k lf lk (λ z. some (else_word f k (λ t. ne t.1) ∙ z))))
+            (cases_eq k i);
       }
 
 -- ---- the start
 
-pub first_loose : IsLoose (first_view 513) 0
+pub first_loose : IsLoose (first_view 1025) 0
 first_loose = record {
-  owned = numbers_has 513 0 (omega arith);
+  owned = numbers_has 1025 0 (omega arith);
   unreferred = λ r. r;
-  unnamed = λ h. let t = has_children [] (numbers_below 513) 0 h in t.2;
+  unnamed = λ h. let t = has_children [] (numbers_below 1025) 0 h in t.2;
 }
 
-pub first_clear : IsClear (first_view 513) 0
+pub first_clear : IsClear (first_view 1025) 0
 first_clear j k = blank_word j
 
-pub start : IsPlaced 0 (dressed (first_view 513) 0 Root)
+first_word : (f k : ℕ) → word_of (dressed (first_view 1025) 0 Root) f k ≡ 0
+first_word f k =
+    ap (λ (ws : List ℕ). get_or ws k 0) (dressed_words (first_view 1025) 0 Root f) ∙ blank_word k
+
+first_length : (f : ℕ) → length (words_of (dressed (first_view 1025) 0 Root) f) ≡ 512
+first_length f =
+    ap (λ (ws : List ℕ). length ws) (dressed_words (first_view 1025) 0 Root f) ∙ blank_length
+
+pub start : IsPlaced 0 0 (dressed (first_view 1025) 0 Root)
 start = record {
   owned = refl;
   references = refl;
   stake = refl;
-  entries = record { root = refl; whole = blank_length; placed = λ j a b. absurd (omega arith) };
-  rest = λ j a b. blank_word j;
-  mids = λ f a b. absurd (omega arith);
-  blank = λ f a b. ap (λ (k : Known). k.words) (known_else (record { frame = 0; kind = Root; words = blank_words }) [] f (λ e. absurd (omega arith)));
+  whole = λ f lt. first_length f;
+  entries = record {
+    root = dressed_kind_here (first_view 1025) 0 Root;
+    whole = first_length 0;
+    named = λ j a. absurd (omega arith);
+  };
+  mids = λ j a. absurd (omega arith);
+  leaves = λ j a. absurd (omega arith);
+  rest = λ f k lf lk some. absurd (some (first_word f k));
 }

@@ -11,7 +11,8 @@ use Rattle.frame_steps.specs.Counted.{entered, gained, lost, lost_at, IsNamedTwi
 pub record DidEnter (s : Step (Unit {0})) (me : Mine) (found : ℕ) (now : Mine) : Type 0 where
   pub slots : now.1 ≡ me.1
   pub tally : now.0.tally ≡ me.0.tally
-  pub view : (f i : ℕ) → i < 512 → s.word ≡ word_place f i → now.0.view ≡ entered me.0.view f i s.first
+  pub view : (f i : ℕ) → i < 512 → s.word ≡ word_place f i
+      → now.0.view ≡ entered me.0.view f i s.first
   pub sound : IsSound now.0.view
 
 -- the view has one reference more

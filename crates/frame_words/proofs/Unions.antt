@@ -29,7 +29,7 @@ times_append f (x ∷ xs) ys = let r = times_append f xs ys in omega arith
 
 -- ---- what is known of a frame that is in sight
 
-abbrev sight : List Known → ℕ → Known
+abbrev pub sight : List Known → ℕ → Known
 sight ks f = record { frame = f; kind = (known_of ks f).kind; words = (known_of ks f).words }
 
 pub sights_here : (ks rest : List Known) (fs : List ℕ) (f : ℕ) → Has f fs → known_of (sights ks fs ++ rest) f ≡ sight ks f
@@ -41,14 +41,14 @@ sights_here ks rest (x ∷ xs) f h = ⊎_elim
     ∙ sights_here ks rest xs f (⊎_elim (λ e. absurd (ne e)) (λ r. r) h))
     (cases_eq f x)
 
-sights_else : (ks rest : List Known) (fs : List ℕ) (f : ℕ) → (Has f fs → ⊥) → known_of (sights ks fs ++ rest) f ≡ known_of rest f
+pub sights_else : (ks rest : List Known) (fs : List ℕ) (f : ℕ) → (Has f fs → ⊥) → known_of (sights ks fs ++ rest) f ≡ known_of rest f
 sights_else ks rest [] f away = refl
 sights_else ks rest (x ∷ xs) f away =
     known_else (sight ks x) (sights ks xs ++ rest) f (λ e. away (inl (sym e)))
     ∙ sights_else ks rest xs f (λ h. away (inr h))
 
 -- a list with nothing behind it
-sights_last : (ks : List Known) (fs : List ℕ) (f : ℕ) → Has f fs → known_of (sights ks fs) f ≡ sight ks f
+pub sights_last : (ks : List Known) (fs : List ℕ) (f : ℕ) → Has f fs → known_of (sights ks fs) f ≡ sight ks f
 sights_last ks [] f h = absurd h
 sights_last ks (x ∷ xs) f h = ⊎_elim
     (λ (e : f ≡ x). known_here (sight ks x) (sights ks xs) f (sym e) ∙ ap (λ (y : ℕ). sight ks y) (sym e))

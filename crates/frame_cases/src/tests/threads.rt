@@ -1,5 +1,5 @@
 //! Two threads gain and lose each of 512 mid tables below one root a thousand times, while they
-//! look at its words.
+//! look at its words, of which no two are the same.
 
 ghost use Rattle.std.specs.Prelude.{◌≡◌, ◌+◌, ◌*◌, ◌<◌, ◌≤◌};
 ghost use Rattle.frame_model.specs.Views.{first_view, whole_stake};
@@ -14,23 +14,38 @@ use std::test::Fail;
 use std::thread;
 use std::thread::Threads;
 
-/// The entry of a root that names this mid table.
-fn pointer(mid: Frame) -> u64
-    ensures { result ≡ pointer_to mid.0 }
+/// The entry of a root or a mid table that names this table.
+fn pointer(table: Frame) -> u64
+    ensures { result ≡ pointer_to table.0 }
 {
-    mid.0 as u64 * 1024 + 1
+    table.0 as u64 * 1024 + 1
+}
+
+/// Makes a mid table, and puts a leaf table below it.
+fn grow(t: &FrameTable, h: &mut Holder, i: u16)
+    requires of { IsOf h.old t.now }
+    requires index { i < 512 }
+    requires placed { IsPlaced i i (view h.old) }
+    ensures of { IsOf h.new t.now }
+    ensures placed { IsPlaced i (i + 1) (view h.new) }
+{
+    let leaf = Frame(i as u32 + 513);
+    dress(t, h, Frame(i as u32 + 1), Kind::Mid);
+    dress(t, h, leaf, Kind::Leaf);
+    gain(t, h, leaf);
+    set_entry(t, h, Frame(i as u32 + 1), i, pointer(leaf));
 }
 
 /// Puts one mid table more below the root.
 fn place(t: &FrameTable, h: &mut Holder, i: u16)
     requires of { IsOf h.old t.now }
     requires index { i < 512 }
-    requires placed { IsPlaced i (view h.old) }
+    requires placed { IsPlaced i i (view h.old) }
     ensures of { IsOf h.new t.now }
-    ensures placed { IsPlaced (i + 1) (view h.new) }
+    ensures placed { IsPlaced (i + 1) (i + 1) (view h.new) }
 {
+    grow(t, h, i);
     let mid = Frame(i as u32 + 1);
-    dress(t, h, mid, Kind::Mid);
     gain(t, h, mid);
     set_entry(t, h, Frame(0), i, pointer(mid));
 }
@@ -38,9 +53,9 @@ fn place(t: &FrameTable, h: &mut Holder, i: u16)
 /// Makes frame 0 a root of 512 mid tables.
 fn plant(t: &FrameTable, h: &mut Holder)
     requires of { IsOf h.old t.now }
-    requires whole { view h.old ≡ first_view 513 }
+    requires whole { view h.old ≡ first_view 1025 }
     ensures of { IsOf h.new t.now }
-    ensures placed { IsPlaced 512 (view h.new) }
+    ensures placed { IsPlaced 512 512 (view h.new) }
 {
     dress(t, h, Frame(0), Kind::Root);
     for i in 0..512 {
@@ -51,7 +66,7 @@ fn plant(t: &FrameTable, h: &mut Holder)
 /// Gives up owning the root and all below it, and keeps a reference.
 fn seal(t: &FrameTable, h: &mut Holder)
     requires of { IsOf h.old t.now }
-    requires placed { IsPlaced 512 (view h.old) }
+    requires placed { IsPlaced 512 512 (view h.old) }
     ensures of { IsOf h.new t.now }
     ensures shared { IsShared (view h.new) }
     ensures one { HasReferences 1 (view h.new) }
@@ -112,7 +127,8 @@ fn visit(t: &FrameTable, h: &mut Holder, i: u16) -> bool
     ensures of { IsOf h.new t.now }
     ensures view { view h.new ≡ view h.old }
 {
-    seen(t, h, i) == (pointer(Frame(i as u32 + 1)), 0)
+    let written = (pointer(Frame(i as u32 + 1)), pointer(Frame(i as u32 + 513)));
+    seen(t, h, i) == written
 }
 
 /// Visits each mid table once.
@@ -191,7 +207,7 @@ fn is_counted(t: &FrameTable, h: &mut Holder, root: u64) -> bool
 
 #[test]
 fn two_threads_count_what_both_reach(rt: HostRuntime) -> Result<(), Fail> {
-    let (table, mut one) = FrameTable::open(rt.alloc(), 513)?;
+    let (table, mut one) = FrameTable::open(rt.alloc(), 1025)?;
     plant(&table, &mut one);
     seal(&table, &mut one);
     let two = second(&table, &mut one);

@@ -1,6 +1,6 @@
 use Rattle.std.proofs.Common.{rules, sym, subst, ◌∙◌}
 use Rattle.frame_cases.specs.Mids.{IsShared}
-use Rattle.frame_cases.proofs.Giving.{referred_reached}
+use Rattle.frame_views.proofs.Giving.{referred_reached}
 use Rattle.frame_cases.proofs.Visits.{mid_reached}
 use Rattle.frame_cases.proofs.tests.threads.is_counted.Goals as goal
 

@@ -14,4 +14,4 @@ pub dress-requires-clause-clear : goal.dress-requires-clause-clear
 dress-requires-clause-clear c = subst (λ (u : View). IsClear u 0) (sym c.requires.whole) first_clear
 
 pub loop-i-init : goal.loop-i-init
-loop-i-init c = (subst (IsPlaced 0) (sym (c.dress.ensures.view ∙ ap (λ (u : View). dressed u 0 Root) c.requires.whole)) start, c.dress.ensures.beside ∙ c.requires.of)
+loop-i-init c = (subst (IsPlaced 0 0) (sym (c.dress.ensures.view ∙ ap (λ (u : View). dressed u 0 Root) c.requires.whole)) start, c.dress.ensures.beside ∙ c.requires.of)

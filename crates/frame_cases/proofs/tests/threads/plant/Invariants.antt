@@ -3,4 +3,4 @@ use Rattle.frame_cases.specs.Mids.{IsPlaced}
 use Rattle.frame_cases.proofs.tests.threads.plant.Given as goal
 
 abbrev pub invariant-loop-i : goal.invariant-loop-i
-invariant-loop-i l = IsPlaced l.i (view l.h) × IsOf l.h l.t
+invariant-loop-i l = IsPlaced l.i l.i (view l.h) × IsOf l.h l.t

@@ -3,7 +3,7 @@ use Rattle.frame_model.specs.declared.view.View.{View}
 use Rattle.frame_model.specs.Views.{Has, reach}
 use Rattle.frame_steps.specs.Counted.{gained, lost, IsNamedTwice}
 use Rattle.frame_cases.specs.Mids.{IsShared, HasReferences}
-use Rattle.frame_cases.proofs.Giving.{own_reached, referred_reached}
+use Rattle.frame_views.proofs.Giving.{own_reached, referred_reached}
 use Rattle.frame_cases.proofs.Visits.{root_own, root_gained, tree_given_up, root_twice, no_reference, seal_shared, seal_one, seal_stake}
 use Rattle.frame_cases.proofs.tests.threads.seal.Goals as goal
 

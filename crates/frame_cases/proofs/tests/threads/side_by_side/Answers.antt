@@ -10,4 +10,4 @@ returns-clause-shared g c =
     let other = c.join-all.result.1.0 in
     let one : IsShared (view all) = search rules in
     let two : IsShared (view other) = search rules in
-    subst IsShared (sym c.join.ensures.view) (both_shared (view all) (view other) all.sound one two)
+    subst IsShared (sym c.join.ensures.view) (both_shared (view all) (view other) one two)

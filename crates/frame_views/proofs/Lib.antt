@@ -1,0 +1,4 @@
+pub mod Giving
+pub mod Joined
+pub mod NewPages
+pub mod NewParts

@@ -1,0 +1,11 @@
+use Rattle.frame_views.proofs.Giving.{shared_gained, fresh_gained, named_gained}
+use Rattle.frame_views.proofs.parts.gains_give_up_trees.Goals as goal
+
+pub returns-clause-shared : goal.returns-clause-shared
+returns-clause-shared c = shared_gained
+
+pub returns-clause-fresh : goal.returns-clause-fresh
+returns-clause-fresh c = fresh_gained
+
+pub returns-clause-named : goal.returns-clause-named
+returns-clause-named c = named_gained

@@ -1,0 +1,60 @@
+//! What a holder owns and refers to after a step.
+
+ghost use Rattle.std.specs.Prelude.{◌≡◌, ℕ, ◌-◌, ◌⊎◌, ◌∷◌, []};
+ghost use Rattle.frame_model.specs.declared.frame.Frame.{Frame};
+ghost use Rattle.frame_model.specs.declared.view.View.{View};
+ghost use Rattle.frame_model.specs.Words.{target};
+ghost use Rattle.frame_model.specs.Views.{Has, children, kind_of, words_of, word_of, reach, part_of};
+ghost use Rattle.frame_model.specs.Views.{among, without, less_one, IsSound};
+ghost use Rattle.frame_words.specs.declared.part.Part.TheVariants.{Root};
+ghost use Rattle.frame_words.specs.Steps.{tree_of, kept_of, given_of, joined};
+ghost use Rattle.frame_steps.specs.Counted.{entered, gained};
+
+/// A reference becomes the new entry, and what the old entry named becomes a reference.
+pub fn entries_trade_references()
+    ensures new { (v : View) (f i x : ℕ) → word_of v f i ≡ 0 → (x ≡ 0 → ⊥)
+        → (entered v f i x).references ≡ less_one (target x) v.references }
+    ensures old { (v : View) (f i : ℕ) → (word_of v f i ≡ 0 → ⊥)
+        → (entered v f i 0).references ≡ target (word_of v f i) ∷ v.references }
+    ensures both { (v : View) (f i x : ℕ) → (word_of v f i ≡ 0 → ⊥) → (x ≡ 0 → ⊥)
+        → (entered v f i x).references
+        ≡ target (word_of v f i) ∷ less_one (target x) v.references }
+{}
+
+/// A gain gives up the tree of an owned frame that something names, and of others nothing.
+pub fn gains_give_up_trees()
+    ensures shared { (v : View) (f : ℕ) → (Has f v.owned → ⊥)
+        → gained v f ≡ part_of v v.owned (f ∷ v.references) v.stake }
+    ensures fresh { (v : View) (f : ℕ) → (Has f v.references → ⊥)
+        → (Has f (children v.known v.owned) → ⊥)
+        → gained v f ≡ part_of v v.owned (f ∷ v.references) v.stake }
+    ensures named { (v : View) (f : ℕ) → Has f v.owned
+        → Has f v.references ⊎ Has f (children v.known v.owned)
+        → gained v f ≡ part_of v (without (tree_of v f) v.owned) (f ∷ v.references) v.stake }
+{}
+
+/// A root that is owned goes with all that is owned below it, and one that isn't goes alone.
+pub fn roots_go_whole()
+    ensures kept { (v : View) (root : Frame) (stake : ℕ) → Has root.0 v.owned
+        → kept_of (Root root stake) v ≡ part_of v (without (tree_of v root.0) v.owned)
+        (without (root.0 ∷ []) v.references) (v.stake - stake) }
+    ensures given { (v : View) (root : Frame) (stake : ℕ) → Has root.0 v.owned
+        → given_of (Root root stake) v ≡ part_of v (among (tree_of v root.0) v.owned)
+        (among (root.0 ∷ []) v.references) stake }
+    ensures left { (v : View) (root : Frame) (stake : ℕ) → (Has root.0 v.owned → ⊥)
+        → kept_of (Root root stake) v
+        ≡ part_of v v.owned (less_one root.0 v.references) (v.stake - stake) }
+    ensures alone { (v : View) (root : Frame) (stake : ℕ) → (Has root.0 v.owned → ⊥)
+        → given_of (Root root stake) v ≡ part_of v [] (root.0 ∷ []) stake }
+{}
+
+/// After a join a holder knows of its reach what it knew, and of the rest of the other's reach
+/// what the other knew. It reaches what either reached.
+pub fn joins_keep_what_was_known()
+    ensures own { (v w : View) (g : ℕ) → Has g (reach v)
+        → (kind_of (joined v w) g ≡ kind_of v g) × (words_of (joined v w) g ≡ words_of v g) }
+    ensures other { (v w : View) (g : ℕ) → (Has g (reach v) → ⊥) → Has g (reach w)
+        → (kind_of (joined v w) g ≡ kind_of w g) × (words_of (joined v w) g ≡ words_of w g) }
+    ensures reach { (v w : View) → IsSound v → IsSound w → (g : ℕ) → Has g (reach (joined v w))
+        → Has g (reach v) ⊎ Has g (reach w) }
+{}
