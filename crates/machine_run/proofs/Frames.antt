@@ -1,64 +1,78 @@
--- Frames for stores and for net reads are frames for the next instruction, and what turns spend
--- one after another.
-use Rattle.std.proofs.Common.{◌≡◌, ◌≢◌, ℕ, suc, ◌+◌, ◌-◌, ◌≤◌, Bool, length, refl, subst, arith, inl, inr}
-use Rattle.std.proofs.lemmas.Bool.{cases_eq}
-use Rattle.hart.specs.Step.{TakesFrames}
-use Rattle.hart.specs.declared.instruction.StepEnd.{StepEnd}
-use Rattle.hart.specs.declared.instruction.StepEnd.TheVariants.{NeedFrames}
-use Rattle.hyper_calls.specs.Exchange.{first_packet}
-use Rattle.hyper_calls.specs.Outcomes.{net_need}
-use Rattle.machine_model.specs.Hypercall.{net_read}
-use Rattle.machine_model.specs.Instruction.{IsNext, Calls}
-use Rattle.machine_model.specs.Machine.{Machine, register}
-use Rattle.machine_model.specs.Run.{Goes, IsTurn}
-use Rattle.machine_run.specs.Frames.{WantsFrames, TurnSpends, Spends, By_store, By_read}
+-- Frames that a step or a hypercall wants are those that its turn wants.
+use Rattle.std.proofs.Common.{◌≡◌, ◌≢◌, ℕ, Bool, ◌⊎◌, inl, inr, sym, ap, subst}
+use Rattle.hart.specs.Step as step
+use Rattle.hyper_calls.specs.Outcomes as call
+use Rattle.machine_model.specs.Hypercall.{Outcome, Done, Rests, Halts, Unknown, outcome}
+use Rattle.machine_model.specs.Instruction.{Next, IsNext, Retires, Calls, Raises}
+use Rattle.machine_model.specs.Machine.{Machine}
+use Rattle.machine_model.specs.Run.{Goes, turn_of, turn_by}
+use Rattle.machine_model.proofs.Runs.{one_next}
+use Rattle.space_api.specs.Frames.{LacksFrames}
+use Rattle.machine_run.specs.Frames.{WantsFrames}
+use Rattle.machine_run.proofs.Turns.{retired_turn}
 
-pub store_wants : (need : (ℕ → Bool) → (at n : ℕ) → ℕ) (old new : ℕ) (m : Machine) →
-    TakesFrames (need m.written) NeedFrames old new m → WantsFrames need old m
-store_wants need old new m takes =
-    let p = takes.wanted refl in
-    record { at = p.0; size = p.1.0; writes = By_store p.1.1.0; few = p.1.1.1 }
-
-pub store_spends : (need : (ℕ → Bool) → (at n : ℕ) → ℕ) (end : StepEnd) (old new : ℕ)
-    (m : Machine) → new ≤ old → TakesFrames (need m.written) end old new m →
-    TurnSpends need old new m
-store_spends need end old new m less takes = record {
-  never_more = less;
-  spent = elim takes.spent [
-    | inl none ↦ inl (omega arith)
-    | inr p ↦ inr (p.0, (p.1.0, (By_store p.1.1.0, p.1.1.1)))
-  ];
+pub from_step : (takes : Bool) (spares clock : ℕ) (m : Machine) →
+    step.WantsFrames takes spares m → WantsFrames takes spares clock m
+from_step takes spares clock m w = record {
+  after = w.after;
+  goes = retired_turn clock m w.after w.retires;
+  lacks = w.lacks;
 }
 
-pub read_spends : (need : (ℕ → Bool) → (at n : ℕ) → ℕ) (old new : ℕ) (m : Machine) →
-    IsNext m Calls → (register m 17 ≢ net_read → new ≡ old) → new ≤ old →
-    old ≤ new + net_need (need m.written) m → TurnSpends need old new m
-read_spends need old new m calls others less most = record {
-  never_more = less;
-  spent = elim (cases_eq (register m 17) net_read) [
-    | inl reads ↦ inr (
-      register m 10,
-      (
-        length (first_packet m.queue),
-        (By_read calls reads refl refl, most),
-      ),
-    )
-    | inr other ↦ inl (others other)
-  ];
+pub from_call : (takes : Bool) (spares clock : ℕ) (m : Machine) → IsNext m Calls →
+    call.WantsFrames takes spares clock m → WantsFrames takes spares clock m
+from_call takes spares clock m calls w = record {
+  after = w.after;
+  goes = record { next = Calls; is_next = calls; turn_is = ap (turn_by m) (sym w.done) };
+  lacks = w.lacks;
 }
 
-pub spends-more : (need : (ℕ → Bool) → (at n : ℕ) → ℕ) (clock from number : ℕ) (m : Machine)
-    (old : ℕ) (here : Machine) (held : ℕ) (after : Machine) (new : ℕ) → from ≤ number →
-    Spends need clock (number - from) m old here held → IsTurn here clock (Goes after) →
-    TurnSpends need held new here → Spends need clock (number + 1 - from) m old after new
-spends-more need clock from number m old here held after new forward before goes turn =
-    let count : suc (number - from) ≡ number + 1 - from = omega arith in
-    let more : Spends need clock (suc (number - from)) m old after new =
-    (here, (held, (before, (goes, turn)))) in
-    subst (λ n. Spends need clock n m old after new) count more
+goes_to : (a b : Machine) → Goes a ≡ Goes b → a ≡ b
+goes_to a b e = cc
 
-pub spends-here : (need : (ℕ → Bool) → (at n : ℕ) → ℕ) (clock from : ℕ) (m : Machine)
-    (old : ℕ) → Spends need clock (from - from) m old m old
-spends-here need clock from m old =
-    let none : Spends need clock 0 m old m old = (refl, refl) in
-    subst (λ n. Spends need clock n m old m old) (let z : 0 ≡ from - from = omega arith in z) none
+done_by : (m after : Machine) (called : Outcome) → Goes after ≡ turn_by m called →
+    called ≡ Done after
+done_by m after (Done to) e = ap Done (sym (goes_to after to e))
+done_by m after (Rests to) e = cc
+done_by m after (Halts code to) e = cc
+done_by m after (Unknown number) e = cc
+
+-- a turn that wants frames is a step or a hypercall that does
+abbrev IsOfBoth : (takes : Bool) (spares clock : ℕ) → Machine → Type 0
+IsOfBoth takes spares clock m =
+    step.WantsFrames takes spares m ⊎ (IsNext m Calls × call.WantsFrames takes spares clock m)
+
+split_by : (takes : Bool) (spares clock : ℕ) (m after : Machine) (next : Next) → IsNext m next →
+    Goes after ≡ turn_of m clock next → LacksFrames takes spares m.written after.written →
+    IsOfBoth takes spares clock m
+split_by takes spares clock m after (Retires to) n e l =
+    let same : to ≡ after = sym (goes_to after to e) in
+    inl (record { after = after; retires = subst (λ x. IsNext m (Retires x)) same n; lacks = l })
+split_by takes spares clock m after Calls n e l =
+    inr (n, record { after = after; done = done_by m after (outcome m clock) e; lacks = l })
+split_by takes spares clock m after (Raises cause tval) n e l = cc
+
+split : (takes : Bool) (spares clock : ℕ) (m : Machine) → WantsFrames takes spares clock m →
+    IsOfBoth takes spares clock m
+split takes spares clock m w =
+    split_by takes spares clock m w.after w.goes.next w.goes.is_next w.goes.turn_is w.lacks
+
+-- where the next instruction is no call and wants none, its turn wants none
+pub none_wanted : {P : Type 0} (takes : Bool) (spares clock : ℕ) (m : Machine) (next : Next) →
+    IsNext m next → next ≢ Calls → (step.WantsFrames takes spares m → ⊥) →
+    WantsFrames takes spares clock m → P
+none_wanted takes spares clock m next n other none w =
+    elim (split takes spares clock m w) [
+      | inl s ↦ absurd (none s)
+      | inr both ↦ absurd (other (one_next m next Calls n both.0))
+    ]
+
+-- and where it is a call that the step left, its hypercall wants them
+pub of_call : (takes : Bool) (spares clock : ℕ) (m : Machine) →
+    (step.WantsFrames takes spares m → ⊥) → WantsFrames takes spares clock m →
+    call.WantsFrames takes spares clock m
+of_call takes spares clock m none w =
+    elim (split takes spares clock m w) [
+      | inl s ↦ absurd (none s)
+      | inr both ↦ both.1
+    ]

@@ -1,5 +1,5 @@
 -- Turns of the machine from what its next instruction does.
-use Rattle.std.proofs.Common.{◌≡◌, ℕ, refl, ap}
+use Rattle.std.proofs.Common.{◌≡◌, ℕ, refl, ap, subst}
 use Rattle.machine_model.specs.Hypercall.{outcome, Unknown}
 use Rattle.machine_model.specs.Instruction.{IsNext, Retires, Raises, Calls, environment_call}
 use Rattle.machine_model.specs.Machine.{Machine}
@@ -18,11 +18,13 @@ trapped_turn clock cause tval old new n same = record {
   turn_is = ap (Stops (Exception cause old.pc tval) 0) same;
 }
 
-pub unknown_turn : (clock number : ℕ) (old new : Machine) → IsNext old Calls →
+pub unknown_turn : (clock number pc : ℕ) (old new : Machine) → old.pc ≡ pc → IsNext old Calls →
     outcome old clock ≡ Unknown number → new ≡ old →
-    IsTurn old clock (Stops (Exception environment_call old.pc number) 0 new)
-unknown_turn clock number old new n unknown same = record {
-  next = Calls;
-  is_next = n;
-  turn_is = rw (unknown, same) refl;
-}
+    IsTurn old clock (Stops (Exception environment_call pc number) 0 new)
+unknown_turn clock number pc old new at n unknown same =
+    let here : IsTurn old clock (Stops (Exception environment_call old.pc number) 0 new) = record {
+      next = Calls;
+      is_next = n;
+      turn_is = rw (unknown, same) refl;
+    } in
+    subst (λ a. IsTurn old clock (Stops (Exception environment_call a number) 0 new)) at here

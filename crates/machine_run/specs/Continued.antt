@@ -1,5 +1,5 @@
 -- Runs in parts: each goes on where the one before it was.
-use Rattle.std.specs.Prelude.{◌≡◌, ◌≢◌, ℕ, ◌+◌, ◌-◌, ◌<◌, ◌≤◌, false, ◌&&◌, not, if◌then◌else◌}
+use Rattle.std.specs.Prelude.{◌≡◌, ℕ, ◌-◌, ◌<◌, ◌≤◌, ◌&&◌, not, if◌then◌else◌}
 use Rattle.std.specs.Prelude.{MatchBool, List, [], Option, Some, None}
 use Rattle.machine_model.specs.Hypercall.{packet_queued}
 use Rattle.machine_model.specs.Machine.{Machine, with_register}
@@ -73,15 +73,6 @@ RunsOn clock limits from m end done after =
     MatchBool (m.resting && is_empty m.queue)
     ((end ≡ Rest) × (done ≡ from) × (after ≡ m))
     (RunsTo clock limits from (woken m) end done after)
-
--- it pauses after so many more instructions, where neither trigger nor budget stops it
-pub record Pauses (limits : model.Limits) (pause : Option ℕ) (from : ℕ) (done : ℕ)
-    (after : Machine) : Type 0 where
-  pub number : ℕ
-  pub pause_is : pause ≡ Some number
-  pub done_is : done ≡ from + number
-  pub trigger : at_trigger limits.trigger done after ≡ false
-  pub budget : done ≢ limits.budget
 
 -- the stop that the run's end is, if the run doesn't go on
 abbrev pub stop_of : RunEnd → Option Stop

@@ -1,4 +1,5 @@
 pub mod Continued
 pub mod Ending
 pub mod Frames
+pub mod Stopping
 pub mod Turns

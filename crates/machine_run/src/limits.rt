@@ -11,6 +11,15 @@ pub struct Limits {
     pub pause: Option<u64>,
 }
 
+/// What one call of a run does: from how many counted instructions on, and up to how many.
+#[derive(Clone, Copy)]
+pub struct Part {
+    pub limits: Limits,
+    pub from: u64,
+    /// Where the call pauses, or the run's budget ends, whichever comes first.
+    pub until: u64,
+}
+
 /// How far a run is.
 #[derive(Clone, Copy, Debug, PartialEq, Eq)]
 pub struct Progress {

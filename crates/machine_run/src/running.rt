@@ -1,15 +1,17 @@
 //! A run to its first stop, in parts.
 
-ghost use Rattle.std.specs.Prelude.{◌≡◌, ◌≢◌, ℕ, ◌+◌, ◌-◌, ◌<◌, ◌≤◌, false, Some, IfSome};
-ghost use Rattle.machine_model.specs.Run.{at_trigger};
-ghost use Rattle.space_api.specs.Flat.{Flat, Traffic, machine_of};
-ghost use Rattle.machine_run.specs.Continued.{limits_of, woken, RunsTo, RunsOn, Pauses};
-ghost use Rattle.machine_run.specs.Frames.{WantsFrames, Spent};
+ghost use Rattle.std.specs.Prelude.{◌≡◌, ◌≢◌, ◌↔◌, ℕ, ◌+◌, ◌<◌, ◌≤◌, true, false, IfSome};
+ghost use Rattle.space_api.specs.Flat.{Flat, machine_of};
+ghost use Rattle.space_api.specs.Frames.{Spent};
+ghost use Rattle.machine_run.specs.Continued.{limits_of, woken, RunsTo, RunsOn};
+ghost use Rattle.machine_run.specs.Ending.{EndsPart, IsPart};
+ghost use Rattle.machine_run.specs.Frames.{IsUndone, WantsRightly};
+ghost use Rattle.machine_run.specs.Stopping.{Pauses, StopsForFrames};
 
-use crate::ends::{AtTurn, at_turn, end_before};
-use crate::limits::{Limits, Progress, RunEnd};
+use crate::ends::end_before;
+use crate::limits::{Limits, Part, Progress, RunEnd};
 use crate::steps::Steps;
-use crate::turn::take_turn;
+use crate::turn::{Turn, take_turn};
 use hyper_calls::Ports;
 use space_api::{Hart, Space};
 use std::sync::ledger::Ledger;
@@ -31,14 +33,14 @@ fn wake(hart: &mut Hart, ports: &Ports)
     }
 }
 
-/// Where a call pauses or its budget ends: after how many instructions.
-fn end_of(limits: &Limits, from: u64) -> u64
+/// What a call does that goes on where `from` instructions are counted.
+fn part_of(limits: &Limits, from: u64) -> Part
     requires { from ≤ limits.now.budget }
-    ensures within { (from ≤ result) × (result ≤ limits.now.budget) }
-    ensures pause { IfSome limits.now.pause (λ n. result ≤ from + n) }
-    ensures early { result < limits.now.budget → limits.now.pause ≡ Some (result - from) }
+    ensures limits { result.limits ≡ limits.now }
+    ensures from { result.from ≡ from }
+    ensures part { IsPart result }
 {
-    match limits.pause {
+    let until = match limits.pause {
         Some(n) => {
             if n < limits.budget - from {
                 from + n
@@ -47,53 +49,58 @@ fn end_of(limits: &Limits, from: u64) -> u64
             }
         }
         None => limits.budget,
+    };
+    Part {
+        limits: *limits,
+        from,
+        until,
     }
 }
 
-/// Runs from `from` counted instructions on, to the first stop or until so many are counted.
+/// Runs a part, to the first stop or until so many instructions are counted.
 fn turns<S: Space, L: Ledger>(
     hart: &mut Hart,
     space: &mut S,
     ports: &mut Ports,
-    limits: &Limits,
-    from: u64,
-    until: u64,
+    part: &Part,
     steps: &mut Steps<L>,
 ) -> (RunEnd, u64)
-    requires { (from ≤ until) × (until ≤ limits.now.budget) }
-    ensures runs { RunsTo ports.old.clock (limits_of limits.now) from
+    requires part { IsPart part.now }
+    requires finished { S.finished space.old ≡ true }
+    ensures runs { RunsTo ports.old.clock (limits_of part.now.limits) part.now.from
         (machine_of hart.old (S.flat space.old) ports.old.traffic) result.0 result.1
         (machine_of hart.new (S.flat space.new) ports.new.traffic) }
-    ensures within { (from ≤ result.1) × (result.1 ≤ until) }
-    ensures paused { result.0 ≡ RunEnd.Paused → (result.1 ≡ until) × (until ≢ limits.now.budget)
-        × (at_trigger limits.now.trigger until
-        (machine_of hart.new (S.flat space.new) ports.new.traffic) ≡ false) }
-    ensures ticks { steps.new + from ≡ steps.old + result.1 }
+    ensures within { (part.now.from ≤ result.1) × (result.1 ≤ part.now.until) }
+    ensures part { EndsPart result.0 ports.old.clock part.now
+        (machine_of hart.old (S.flat space.old) ports.old.traffic) result.1
+        (machine_of hart.new (S.flat space.new) ports.new.traffic) }
+    ensures wants { IsUndone result.0 → WantsRightly result.0 S.takes_frames S.lacks_memory
+        (S.spares space.new) ports.old.clock
+        (machine_of hart.new (S.flat space.new) ports.new.traffic) }
+    ensures ticks { steps.new + part.now.from ≡ steps.old + result.1 }
     ensures clock { ports.new.clock ≡ ports.old.clock }
     ensures resting { result.0 ≢ RunEnd.Rest → hart.new.resting ≡ hart.old.resting }
-    ensures spares { S.spares space.new ≤ S.spares space.old }
-    ensures frames { result.0 ≡ RunEnd.NeedFrames → WantsFrames S.need (S.spares space.new)
-        (machine_of hart.new (S.flat space.new) ports.new.traffic) }
-    ensures spent { Spent S.need ports.old.clock from result.1
-        (machine_of hart.old (S.flat space.old) ports.old.traffic) (S.spares space.old)
-        (S.spares space.new) }
+    ensures spent { Spent S.takes_frames (S.spares space.old) (S.flat space.old).written
+        (S.spares space.new) (S.flat space.new).written }
+    ensures held { (S.finished space.new ≡ true) × (S.stake space.new ≡ S.stake space.old)
+        × (S.span space.new ≡ S.span space.old) }
 {
-    let mut number = from;
+    let mut number = part.from;
     'turns: loop {
-        if let Some(end) = end_before(hart, limits, until, number) {
+        if let Some(end) = end_before(hart, part, number) {
             return (end, number);
         }
         let turn = take_turn(hart, space, ports);
-        match at_turn(turn, hart.pc) {
-            AtTurn::Goes => {
+        match turn {
+            Turn::Goes => {
                 steps.tick();
                 number += 1;
             }
-            AtTurn::Counted(end) => {
+            Turn::Counted(end) => {
                 steps.tick();
                 return (end, number + 1);
             }
-            AtTurn::Uncounted(end) => return (end, number),
+            Turn::Uncounted(end) => return (end, number),
         }
     }
 }
@@ -111,42 +118,46 @@ pub fn run<S: Space, L: Ledger>(
     progress: &mut Progress,
     steps: &mut Steps<L>,
 ) -> RunEnd
-    requires { progress.old.done ≤ limits.now.budget }
+    requires budget { progress.old.done ≤ limits.now.budget }
+    requires finished { S.finished space.old ≡ true }
     ensures runs { RunsOn ports.old.clock (limits_of limits.now) progress.old.done
         (machine_of hart.old (S.flat space.old) ports.old.traffic) result progress.new.done
         (machine_of hart.new (S.flat space.new) ports.new.traffic) }
 
-    // One call counts at most as many as its pause, and the run at most as many as its budget.
+    // One call counts at most as many as its pause, and the run at most as many as its budget; it
+    // looks at an instruction only below them.
     ensures within { (progress.old.done ≤ progress.new.done)
         × (progress.new.done ≤ limits.now.budget) }
     ensures pause { IfSome limits.now.pause (λ n.
         progress.new.done ≤ progress.old.done + n) }
-    ensures paused { result ≡ RunEnd.Paused → Pauses (limits_of limits.now) limits.now.pause
-        progress.old.done progress.new.done
+    ensures below { IsUndone result → (progress.new.done < limits.now.budget)
+        × IfSome limits.now.pause (λ n. progress.new.done < progress.old.done + n) }
+
+    // It pauses exactly there, and wants frames exactly where the next instruction alone can stop
+    // it and takes more of them than the space has spares.
+    ensures paused { (result ≡ RunEnd.Paused) ↔ Pauses ports.old.clock limits.now
+        progress.old.done (woken (machine_of hart.old (S.flat space.old) ports.old.traffic))
+        progress.new.done (machine_of hart.new (S.flat space.new) ports.new.traffic) }
+    ensures frames { (result ≡ RunEnd.NeedFrames) ↔ StopsForFrames S.takes_frames
+        (S.spares space.new) ports.old.clock limits.now progress.old.done
+        (woken (machine_of hart.old (S.flat space.old) ports.old.traffic)) progress.new.done
         (machine_of hart.new (S.flat space.new) ports.new.traffic) }
+    ensures memory { result ≡ RunEnd.Memory → S.lacks_memory ≡ true }
 
     ensures ticks { steps.new + progress.old.done ≡ steps.old + progress.new.done }
     ensures clock { ports.new.clock ≡ ports.old.clock }
     ensures awake { result ≢ RunEnd.Rest → hart.new.resting ≡ false }
-    ensures spares { S.spares space.new ≤ S.spares space.old }
-
-    // Frames are wanted by the next instruction alone, which writes bytes, and only where there
-    // are fewer spares than it needs.
-    ensures frames { result ≡ RunEnd.NeedFrames → WantsFrames S.need (S.spares space.new)
-        (machine_of hart.new (S.flat space.new) ports.new.traffic) }
-
-    // Each instruction spends at most what its own write needs.
-    ensures spent { Spent S.need ports.old.clock progress.old.done progress.new.done
-        (woken (machine_of hart.old (S.flat space.old) ports.old.traffic)) (S.spares space.old)
-        (S.spares space.new) }
+    ensures spent { Spent S.takes_frames (S.spares space.old) (S.flat space.old).written
+        (S.spares space.new) (S.flat space.new).written }
+    ensures held { (S.finished space.new ≡ true) × (S.stake space.new ≡ S.stake space.old)
+        × (S.span space.new ≡ S.span space.old) }
 {
     wake(hart, ports);
     if hart.resting {
         return RunEnd::Rest;
     }
-    let from = progress.done;
-    let until = end_of(limits, from);
-    let (end, done) = turns(hart, space, ports, limits, from, until, steps);
+    let part = part_of(limits, progress.done);
+    let (end, done) = turns(hart, space, ports, &part, steps);
     progress.done = done;
     end
 }

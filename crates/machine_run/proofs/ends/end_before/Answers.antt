@@ -6,6 +6,6 @@ pub returns-then-is_at-clause-ends : goal.returns-then-is_at-clause-ends
 returns-then-is_at-clause-ends c = λ clock flat traffic.
     By_trigger (sym (c.is_at.ensures flat traffic) ∙ c.if-is_at.true)
 
-pub returns-then-until-limits-clause-ends : goal.returns-then-until-limits-clause-ends
-returns-then-until-limits-clause-ends c = λ clock flat traffic.
+pub returns-then-part-clause-ends : goal.returns-then-part-clause-ends
+returns-then-part-clause-ends c = λ clock flat traffic.
     By_budget (sym (c.is_at.ensures flat traffic) ∙ c.if-is_at.false) (omega arith)
