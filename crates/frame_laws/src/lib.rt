@@ -4,8 +4,10 @@
 #![tactic(auto)]
 
 mod laws;
+mod runs;
 
 pub use laws::{
     cut_views_know_what_was_known, gains_of_shared_frames_give_up_nothing,
     joined_views_know_what_was_known, owned_words_alone_change, references_change_no_word,
 };
+pub use runs::{shared_frames_stay, steps_change_owned_frames_alone, steps_keep_the_rule};

@@ -4,8 +4,8 @@ ghost use Rattle.std.specs.Prelude.{◌≡◌, ℕ, ◌-◌, ◌⊎◌, ◌∷�
 ghost use Rattle.frame_model.specs.declared.frame.Frame.{Frame};
 ghost use Rattle.frame_model.specs.declared.view.View.{View};
 ghost use Rattle.frame_model.specs.Words.{target};
-ghost use Rattle.frame_model.specs.Views.{Has, children, kind_of, words_of, word_of, reach, part_of};
-ghost use Rattle.frame_model.specs.Views.{among, without, less_one, IsSound};
+ghost use Rattle.frame_model.specs.Views.{Has, children, kind_of, words_of, word_of, reach};
+ghost use Rattle.frame_model.specs.Views.{among, without, less_one, part_of, IsSound};
 ghost use Rattle.frame_words.specs.declared.part.Part.TheVariants.{Root};
 ghost use Rattle.frame_words.specs.Steps.{tree_of, kept_of, given_of, joined};
 ghost use Rattle.frame_steps.specs.Counted.{entered, gained};

@@ -203,7 +203,7 @@ module _ (n : ℕ) (ws : List ℕ) (views : List View) (rule : FrameRule n (fram
             (cases_eq g f);
       }
 
-  put_kept : FrameRule n m (set views id (put v f i x))
+  pub put_kept : FrameRule n m (set views id (put v f i x))
   put_kept = news_kept n l m views rule id v at f (kind_of v f) (set (words_of v f) i x) put_news
 
 module _ (n : ℕ) (slots id : ℕ) (me : Mine) where
@@ -310,7 +310,7 @@ module _ (n : ℕ) (ws : List ℕ) (views : List View) (rule : FrameRule n (fram
             (cases_eq g f);
       }
 
-  dress_kept : FrameRule n dm (set views id (dressed v f kind))
+  pub dress_kept : FrameRule n dm (set views id (dressed v f kind))
   dress_kept = news_kept n dl dm views rule id v at f kind (words_of v f) dress_news
 
 module _ (n : ℕ) (slots id : ℕ) (me : Mine) where
