@@ -91,13 +91,19 @@ impl LayerList {
         self.cache.peek_lru().map(|(k, _)| *k)
     }
 
-    /// Whether there is no room for a further layer. No layer is in the list twice, and there
-    /// are no more than it has room for.
+    /// Whether there is no room for a further layer.
     pub fn is_full(&self) -> bool
-        ensures full { result ≡ is_full self.now }
+        ensures { result ≡ is_full self.now }
+    {
+        self.cache.len() == self.room as usize
+    }
+
+    /// Hands out what the list keeps, and does nothing: no layer is in it twice, and there are no
+    /// more than it has room for.
+    pub fn is_sound(&self)
         ensures distinct { IsDistinct nat_eq (keys_of self.now.entries) }
         ensures within { length self.now.entries ≤ self.now.room }
     {
-        self.cache.len() == self.room as usize
+        let _count = self.cache.len();
     }
 }

@@ -1,5 +1,6 @@
 pub mod Answering
 pub mod Folding
+pub mod Listing
 pub mod Naming
 pub mod Numbers
 pub mod Serving

@@ -6,7 +6,7 @@ use Rattle.std.specs.Prelude.{option_and_then}
 use Rattle.std.proofs.lemmas.Option.{none-some, same_Some}
 use Rattle.journal_model.specs.Extents.{Extents}
 use Rattle.journal_model.specs.State.{State, numbered, contains}
-use Rattle.journal_model.specs.Bounds.{Has}
+use Rattle.journal_model.proofs.Apart.{Has}
 use Rattle.journal_model.specs.Legal as legal
 use Rattle.journal_model.specs.Legal.{after, after_all, at_first, is_open_standing}
 use Rattle.journal_model.specs.Reads.{answer_from, answers_below, served, earlier, earlier_one}

@@ -5,7 +5,7 @@ use Rattle.std.proofs.Common.{subst, inl, inr, ◌⊎◌}
 use Rattle.std.specs.List.{slice_get}
 use Rattle.std.proofs.lemmas.Option.{none-some, same_Some}
 use Rattle.journal_model.specs.State.{contains, layer_above, highest_kept, highest_of}
-use Rattle.journal_model.specs.Bounds.{IsDistinct, Has}
+use Rattle.journal_model.proofs.Apart.{IsApart, Has}
 use Rattle.journal_laws.specs.Stacks.{IsHighest, IsNoneKept, IsRising, RisesFrom}
 use Rattle.journal_model.proofs.Recents.{same, differ}
 
@@ -21,7 +21,7 @@ has_get (x ∷ xs) j h = elim h
     [ inl e ↦ (0, ap Some e) | inr k ↦ (let p = has_get xs j k in (suc p.0, p.1)) ]
 
 -- in a list without doubles a number has one place
-pub one_place : (xs : List ℕ) (i j a : ℕ) → IsDistinct xs → slice_get xs i ≡ Some a →
+pub one_place : (xs : List ℕ) (i j a : ℕ) → IsApart xs → slice_get xs i ≡ Some a →
     slice_get xs j ≡ Some a → i ≡ j
 one_place [] i j a d h k = absurd (none-some a h)
 one_place (x ∷ xs) zero zero a d h k = refl
@@ -42,7 +42,7 @@ above_later : (b : Bool) (a x i : ℕ) (xs : List ℕ) → (x == a) ≡ b → (x
 above_later true a x i xs e n h = absurd (n (same x a e))
 above_later false a x i xs e n h = h
 
-above_at_next : (stack : List ℕ) (i a : ℕ) → IsDistinct stack → slice_get stack i ≡ Some a →
+above_at_next : (stack : List ℕ) (i a : ℕ) → IsApart stack → slice_get stack i ≡ Some a →
     layer_above (Some a) stack ≡ slice_get stack (suc i)
 unfolding layer_above
 above_at_next [] i a d h = absurd (none-some a h)
@@ -52,7 +52,7 @@ above_at_next (x ∷ xs) (suc i) a d h = above_later (x == a) a x i xs refl
     (above_at_next xs i a d.1 h)
 
 -- what stands directly above the layer at a place of a stack is the layer at the next place
-pub above_at : (stack : List ℕ) (i a : ℕ) → IsDistinct stack → slice_get stack i ≡ Some a →
+pub above_at : (stack : List ℕ) (i a : ℕ) → IsApart stack → slice_get stack i ≡ Some a →
     layer_above (Some a) stack ≡ slice_get stack (i + 1)
 above_at stack i a d h =
     above_at_next stack i a d h ∙ ap (λ n. slice_get stack n) (omega arith)
@@ -82,7 +82,7 @@ next_same : (i j : ℕ) → suc i ≡ suc j → i ≡ j
 next_same i j h = omega arith
 
 -- a layer is directly above one place only
-pub above_once : (stack : List ℕ) (p q : Option ℕ) (k : ℕ) → IsDistinct stack →
+pub above_once : (stack : List ℕ) (p q : Option ℕ) (k : ℕ) → IsApart stack →
     layer_above p stack ≡ Some k → layer_above q stack ≡ Some k → p ≡ q
 unfolding layer_above
 above_once stack None None k d h m = refl
@@ -200,7 +200,7 @@ rises_above x z (y ∷ ys) r h = let l : x < y = r.0 in elim h [
   | inr k ↦ (let m : y < z = rises_above y z ys r.1 k in omega arith)
 ]
 
-rises_distinct : (x : ℕ) (ys : List ℕ) → RisesFrom x ys → IsDistinct (x ∷ ys)
+rises_distinct : (x : ℕ) (ys : List ℕ) → RisesFrom x ys → IsApart (x ∷ ys)
 rises_distinct x [] r = (λ h. h, tt)
 rises_distinct x (y ∷ ys) r = (
   λ h. (let l = rises_above x x (y ∷ ys) r h in absurd (omega arith)),
@@ -208,6 +208,6 @@ rises_distinct x (y ∷ ys) r = (
 )
 
 -- a list that rises has no number twice
-pub rising_distinct : (xs : List ℕ) → IsRising xs → IsDistinct xs
+pub rising_distinct : (xs : List ℕ) → IsRising xs → IsApart xs
 rising_distinct [] r = tt
 rising_distinct (x ∷ xs) r = rises_distinct x xs r

@@ -9,7 +9,7 @@ use Rattle.std.proofs.lemmas.Option.{none-some, same_Some}
 use Rattle.journal_model.specs.Extents.{Extents}
 use Rattle.journal_model.specs.State.{State, numbered, is_just, without, contains, is_full}
 use Rattle.journal_model.specs.State.{stack_of}
-use Rattle.journal_model.specs.Bounds.{Has}
+use Rattle.journal_model.proofs.Apart.{Has}
 use Rattle.journal_model.specs.Reads.{answer_from, is_answer_of}
 use Rattle.journal_model.specs.Legal as legal
 use Rattle.journal_model.specs.Legal.{after, is_open_standing, with_change, with_duty, with_layer}

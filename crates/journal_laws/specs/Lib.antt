@@ -1,3 +1,4 @@
+pub mod Lists
 pub mod Rests
 pub mod Served
 pub mod Stacks

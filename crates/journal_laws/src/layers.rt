@@ -1,9 +1,10 @@
 //! Stacks of layers.
 
 ghost use Rattle.std.specs.Prelude.{◌≡◌, ◌↔◌, ◌+◌, ◌≤◌, ◌<◌, ℕ, List, Option, Some, None, All};
-ghost use Rattle.std.specs.Prelude.{true, false};
+ghost use Rattle.std.specs.Prelude.{true, false, nat_eq};
 ghost use Rattle.std.specs.List.{slice_get};
-ghost use Rattle.journal_model.specs.Bounds.{IsDistinct, IsSized};
+ghost use Rattle.std.specs.List.{IsDistinct};
+ghost use Rattle.journal_model.specs.Bounds.{IsSized};
 ghost use Rattle.journal_model.specs.Extents.{Extents, Stack};
 ghost use Rattle.journal_model.specs.State.{contains, layer_above, highest_kept};
 ghost use Rattle.journal_laws.specs.Stacks.{IsHighest, IsNoneKept, IsRising};
@@ -11,11 +12,11 @@ ghost use Rattle.journal_laws.specs.Stacks.{IsHighest, IsNoneKept, IsRising};
 /// In a stack without doubles, what stands directly above the layer at a place is the layer at the
 /// next; a layer stands directly above one place only, which is a layer or the image.
 pub fn layers_stand_above_one_place()
-    ensures next { (stack : List ℕ) (at a : ℕ) → IsDistinct stack →
+    ensures next { (stack : List ℕ) (at a : ℕ) → IsDistinct nat_eq stack →
         slice_get stack at ≡ Some a → layer_above (Some a) stack ≡ slice_get stack (at + 1) }
-    ensures once { (stack : List ℕ) (p q : Option ℕ) (k : ℕ) → IsDistinct stack →
+    ensures once { (stack : List ℕ) (p q : Option ℕ) (k : ℕ) → IsDistinct nat_eq stack →
         layer_above p stack ≡ Some k → layer_above q stack ≡ Some k → p ≡ q }
-    ensures place { (stack : List ℕ) (i j a : ℕ) → IsDistinct stack →
+    ensures place { (stack : List ℕ) (i j a : ℕ) → IsDistinct nat_eq stack →
         slice_get stack i ≡ Some a → slice_get stack j ≡ Some a → i ≡ j }
 {}
 

@@ -1,3 +1,4 @@
+pub mod Apart
 pub mod Folds
 pub mod Frames
 pub mod Looks

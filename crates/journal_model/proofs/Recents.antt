@@ -7,7 +7,7 @@ use Rattle.std.proofs.lemmas.Bool.Decides.{nat_tests}
 use Rattle.std.proofs.lemmas.Option.{none-some, same_Some}
 use Rattle.std.specs.List.{slice_get, find}
 use Rattle.journal_model.specs.State.{contains, without, last_of, is_just, highest_kept, highest_of}
-use Rattle.journal_model.specs.Bounds.{IsDistinct, Has}
+use Rattle.journal_model.proofs.Apart.{IsApart, Has}
 
 pub same : (a b : ℕ) → (a == b) ≡ true → a ≡ b
 same a b h = grind (arith, nat_tests)
@@ -54,18 +54,18 @@ gone_at true x y ys w f g a r h =
 gone_at false x y ys w f g a r h = elim h [ inl e ↦ g refl e | inr k ↦ r k ]
 
 -- the number is gone
-pub without_gone : (x : ℕ) (ys : List ℕ) → IsDistinct ys → Has x (without x ys) → ⊥
+pub without_gone : (x : ℕ) (ys : List ℕ) → IsApart ys → Has x (without x ys) → ⊥
 unfolding without
 without_gone x [] d h = h
 without_gone x (y ∷ ys) d h =
     gone_at (y == x) x y ys (without x ys) (same y x) (differ y x) d.0 (without_gone x ys d.1) h
 
-distinct_at : (b : Bool) (y : ℕ) (ys w : List ℕ) → IsDistinct ys → IsDistinct w →
-    (Has y w → ⊥) → IsDistinct (cond b ys (y ∷ w))
+distinct_at : (b : Bool) (y : ℕ) (ys w : List ℕ) → IsApart ys → IsApart w →
+    (Has y w → ⊥) → IsApart (cond b ys (y ∷ w))
 distinct_at true y ys w d e f = d
 distinct_at false y ys w d e f = (f, e)
 
-pub without_distinct : (x : ℕ) (ys : List ℕ) → IsDistinct ys → IsDistinct (without x ys)
+pub without_distinct : (x : ℕ) (ys : List ℕ) → IsApart ys → IsApart (without x ys)
 unfolding without
 without_distinct x [] d = d
 without_distinct x (y ∷ ys) d = distinct_at (y == x) y ys (without x ys) d.1

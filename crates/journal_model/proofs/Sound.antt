@@ -10,7 +10,8 @@ use Rattle.std.proofs.lemmas.Option.{none-some, same_Some}
 use Rattle.journal_model.specs.Extents.{Extents}
 use Rattle.journal_model.specs.State.{State, numbered, contains, without, is_full}
 use Rattle.journal_model.specs.State.{highest_kept, stack_of}
-use Rattle.journal_model.specs.Bounds.{Has, IsDistinct, HasRooms, ServesOnce}
+use Rattle.journal_model.specs.Bounds.{HasRooms, ServesOnce}
+use Rattle.journal_model.proofs.Apart.{Has, IsApart, apart_distinct}
 use Rattle.journal_model.specs.Legal as legal
 use Rattle.journal_model.specs.Legal.{after, step_if, with_duty, with_layer, with_used}
 use Rattle.journal_model.specs.Legal.{with_standing}
@@ -76,9 +77,9 @@ CanDo sizes idle kept xs (owed.EndOrEvict c) = IsBusy xs c
 CanDo sizes idle kept xs (owed.Park c) = IsBusy xs c × (length idle < sizes.idle)
 
 pub record Sound (sizes : Extents) (s : State) : Type 0 where
-  pub idle_distinct : IsDistinct s.idle
+  pub idle_distinct : IsApart s.idle
   pub idle_room : length s.idle ≤ sizes.idle
-  pub kept_distinct : IsDistinct s.kept
+  pub kept_distinct : IsApart s.kept
   pub kept_room : length s.kept ≤ sizes.layers
   pub idle : AreIdle s.contexts s.idle
   pub given : AreGiven s.contexts s.requests
@@ -380,8 +381,8 @@ place_has (Some j) k kept f h =
 
 front_distinct : (k : Option ℕ) (kept stack : List ℕ) →
     legal.same_place (highest_kept kept stack) k ≡ true →
-    IsDistinct kept → (room : ℕ) → length kept ≤ room →
-    IsDistinct (legal.to_front k kept) × (length (legal.to_front k kept) ≤ room)
+    IsApart kept → (room : ℕ) → length kept ≤ room →
+    IsApart (legal.to_front k kept) × (length (legal.to_front k kept) ≤ room)
 front_distinct None kept stack h d room r = (d, r)
 front_distinct (Some k) kept stack h d room r =
     let m : Has k kept = place_has (highest_kept kept stack) k kept (highest_has kept stack) h in
@@ -685,9 +686,9 @@ reached_sound sizes es t h = sound_all sizes (legal.at_first sizes) es t (sound_
 pub reached_rooms : (sizes : Extents) (es : List Event) (t : State) →
     legal.after_all sizes (legal.at_first sizes) es ≡ Some t → HasRooms sizes t
 reached_rooms sizes es t h = let k = reached_sound sizes es t h in record {
-  idle_distinct = k.idle_distinct;
+  idle_distinct = apart_distinct t.idle k.idle_distinct;
   idle_room = k.idle_room;
-  kept_distinct = k.kept_distinct;
+  kept_distinct = apart_distinct t.kept k.kept_distinct;
   kept_room = k.kept_room;
 }
 
