@@ -5,25 +5,20 @@ ghost use Rattle.image_model.specs.StartOf as model;
 ghost use Rattle.machine_model.specs.Loaded.{loaded};
 ghost use Rattle.machine_model.specs.Run.{give, Replies};
 ghost use Rattle.machine_run.specs.Continued as continued;
-ghost use Rattle.space_api.specs.Flat.{Flat, Traffic, machine_of, flat_of};
 ghost use Rattle.call_command.specs.Call.{call_stack, call_limits};
 
 use hyper_calls::Ports;
-use image_model::{Image, Start, start_is_sound};
+use image_model::Image;
 use image_start::start_of;
-use machine_model::{Hart, Memory, Packet, REGISTERS, Stop};
+use machine_model::{Memory, Packet, Stop};
 use machine_run::{Limits, Progress, RunEnd, Steps, parts_are_the_run, run};
 use plain_space::PlainSpace;
+use space_api::first_hart;
 use std::alloc::Global;
 use std::sync::ledger::{Blank, Ledger};
 
-/// The size of the stack in bytes, and where it ends.
+/// The size of the stack in bytes.
 const STACK: u64 = 65_536;
-
-const STACK_END: u64 = 1 << 38;
-
-/// The stack pointer (RISC-V ELF psABI, "Integer Register Convention").
-const SP: u8 = 2;
 
 /// What the clock shows, in nanoseconds.
 const CLOCK: u64 = 0;
@@ -41,25 +36,6 @@ pub struct Execution {
     pub stop: Stop,
     pub number: u64,
     pub ports: Ports,
-}
-
-/// The hart before a program's first instruction.
-fn first_hart(start: &Start) -> Hart
-    requires { start.now.entry % 4 ≡ 0 }
-    ensures { (traffic : Traffic) → machine_of result (flat_of start.now) traffic
-        ≡ record (loaded start.now) {
-          queue = traffic.queue;
-          sent = traffic.sent;
-          console = traffic.console;
-        } }
-{
-    let mut hart = Hart {
-        x: [0; REGISTERS],
-        pc: start.entry(),
-        resting: false,
-    };
-    hart.set_register(SP, STACK_END);
-    hart
 }
 
 /// The stop that an end is, or none where memory ran out. A run over copied pages wants no
@@ -95,8 +71,7 @@ pub fn execute<L: Ledger>(
         (give (loaded (model.start_of image.now call_stack)) packets.now)
         e.stop e.number e.ports.traffic.sent e.ports.traffic.console) }
 {
-    // These calls do nothing: their contracts are the laws that the clause rests on.
-    start_is_sound();
+    // This call does nothing: its contract is the law that the clause rests on.
     parts_are_the_run();
     let start = start_of(alloc, image, STACK)?;
     let mut hart = first_hart(&start);
