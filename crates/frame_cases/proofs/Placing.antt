@@ -37,7 +37,8 @@ pub word_child : (v : View) (f j g : ℕ) → 0 < kind_number (kind_of v f)
 word_child v f j g table whole lt small is =
     let there = targets_has (words_of v f) j (omega arith) (λ z. pointer_some g (sym is ∙ z)) in
     by_kind_has (kind_of v f) (words_of v f) g table
-    (subst (λ (x : ℕ). Has x (targets (words_of v f))) (ap target is ∙ pointer_target g small) there)
+    (subst (λ (x : ℕ). Has x (targets (words_of v f))) (ap target is ∙ pointer_target g small)
+    there)
 
 pub entry_child : (v : View) → HasEntries 512 v → (j : ℕ) → j < 512
     → Has (mid_at j) (targets_of (known_of v.known 0))
@@ -121,7 +122,8 @@ module _ (i w : ℕ) (v : View) (p : IsPlaced i w v) (li : i ≤ 512) (lw : w �
           whole = len 0 ∙ p.entries.whole;
           named = λ j lt. word 0 j ∙ p.entries.named j lt;
         };
-        mids = λ j lt. dressed_kind_else v f kind (mid_at j) (λ e. no_mid j lt (sym e)) ∙ p.mids j lt;
+        mids = λ j lt.
+            dressed_kind_else v f kind (mid_at j) (λ e. no_mid j lt (sym e)) ∙ p.mids j lt;
         leaves = λ j lt. word (mid_at j) j ∙ p.leaves j lt;
         rest = λ g k lg lk some. p.rest g k lg lk (λ z. some (word g k ∙ z));
       }
@@ -143,7 +145,8 @@ module _ (i : ℕ) (v : View) (p : IsPlaced i i v) (lt : i < 512) where
       (λ k h e. absurd (omega arith))
 
   pub mid_clear : IsClear v mid
-  mid_clear = clear i i v p (omega arith) (omega arith) mid (omega arith) (λ e. absurd (omega arith))
+  mid_clear = clear i i v p (omega arith) (omega arith) mid (omega arith)
+      (λ e. absurd (omega arith))
       not_placed
 
   abbrev v1 : View
@@ -172,7 +175,8 @@ module _ (i : ℕ) (v : View) (p : IsPlaced i i v) (lt : i < 512) where
   leaf_kind = dressed_kind_here v1 leaf Leaf
 
   mid_kind : kind_of v2 mid ≡ Mid
-  mid_kind = dressed_kind_else v1 leaf Leaf mid (λ e. absurd (omega arith)) ∙ dressed_kind_here v mid Mid
+  mid_kind =
+      dressed_kind_else v1 leaf Leaf mid (λ e. absurd (omega arith)) ∙ dressed_kind_here v mid Mid
 
   pub leaf_owned : Has leaf v2.owned
   leaf_owned = owns i i v2 placed2 (omega arith) (omega arith) leaf (omega arith)

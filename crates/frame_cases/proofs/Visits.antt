@@ -1,10 +1,12 @@
 -- What holders that share the root reach, and what their steps make of their views.
-use Rattle.std.proofs.Common.{◌≡◌, ℕ, ◌+◌, ◌-◌, ◌<◌, ◌≤◌, List, [], ◌∷◌, length, get_or, refl, sym, ap, subst, ◌∙◌, inl, inr, ⊎_elim, arith}
+use Rattle.std.proofs.Common.{◌≡◌, ℕ, ◌+◌, ◌-◌, ◌<◌, ◌≤◌, List, [], ◌∷◌, length, get_or}
+use Rattle.std.proofs.Common.{refl, sym, ap, subst, ◌∙◌, inl, inr, ⊎_elim, arith}
 use Rattle.frame_model.specs.declared.frame.Frame.{Frame}
 use Rattle.frame_model.specs.declared.view.View.{View}
 use Rattle.frame_model.specs.Words.{depth, kind_number}
 use Rattle.std.proofs.lemmas.Bool.{cases_eq, cases_lt}
-use Rattle.frame_model.specs.Views.{Has, without, children, within, reach, part_of, whole_stake, IsSound}
+use Rattle.frame_model.specs.Views.{Has, without, children, within, reach, part_of, whole_stake}
+use Rattle.frame_model.specs.Views.{IsSound}
 use Rattle.frame_model.proofs.Opening.{has_numbers, numbers_has}
 use Rattle.frame_model.proofs.Parts.{has_without}
 use Rattle.frame_model.proofs.Reach.{has_left, has_right, has_append, children_has, within_front}
@@ -18,7 +20,8 @@ use Rattle.frame_steps.specs.Counted.{gained, lost, IsNamedTwice, referred_twice
 use Rattle.frame_cases.specs.Mids.{mid_at, leaf_at, IsPlaced, IsShared, HasReferences}
 use Rattle.frame_views.proofs.Giving.{shared_gained as gained_shared, fresh_gained}
 use Rattle.frame_views.proofs.Giving.{named_gained, less_here, referred_reached}
-use Rattle.frame_cases.proofs.Placing.{word_child, entry_child, unplaced, no_reference as none_referred}
+use Rattle.frame_cases.proofs.Placing.{word_child, entry_child, unplaced}
+use Rattle.frame_cases.proofs.Placing.{no_reference as none_referred}
 
 -- ---- seal
 
@@ -157,7 +160,8 @@ module _ (v : View) (s : IsShared v) where
       ≡ part_of v v.owned v.references (v.stake - stake)
   root_kept r stake e =
       other_root_kept twice r stake (away r e)
-      ∙ ap (λ (xs : List ℕ). part_of v v.owned xs (v.stake - stake)) (less_here r.0 0 v.references e)
+      ∙ ap (λ (xs : List ℕ). part_of v v.owned xs (v.stake - stake))
+      (less_here r.0 0 v.references e)
 
   pub root_given : (r : Frame) (stake : ℕ) → r.0 ≡ 0
       → given_of (RootPart r stake) twice ≡ part_of v [] (0 ∷ []) stake

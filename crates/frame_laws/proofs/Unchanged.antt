@@ -44,7 +44,8 @@ kept_as n s place word id me h w v a e kept =
     was ∙ ap (λ (u : View). set (views_of s.views) id u) e ∙ sym now in
     record {
       size = kept.size;
-      rule = subst (λ (vs : List View). FrameRule n (frames_in (set s.words place word)) vs) same kept.rule;
+      rule = subst (λ (vs : List View). FrameRule n (frames_in (set s.words place word)) vs) same
+          kept.rule;
     }
 
 module _ (n : ℕ) (s : Table) (kept : Kept n s) (id : ℕ) (h : Holding) (at : Holds s id h) where

@@ -30,7 +30,8 @@ module _ (v : View) (lone : OwnsDataAlone v) where
   -- what it reaches it owns
   pub lone_reach : (f : ℕ) → Has f (reach v) → Has f v.owned
   lone_reach f h = within_inside (λ (x : ℕ). Has x v.owned) v.known depth (v.owned ++ v.references)
-      (λ x hx. ⊎_elim (λ o. o) (λ r. absurd (no_reference x r)) (has_append x v.owned v.references hx))
+      (λ x hx. ⊎_elim (λ o. o) (λ r. absurd (no_reference x r))
+      (has_append x v.owned v.references hx))
       (λ x y o t. absurd (no_target x y o t))
       f h
 

@@ -1,5 +1,6 @@
 pub mod Counts
 pub mod Covers
+pub mod NameCounts
 pub mod Opening
 pub mod Owners
 pub mod Parts

@@ -111,6 +111,10 @@ pub record IsLoose (v : View) (f : ℕ) : Type 0 where
   pub unreferred : Has f v.references → ⊥
   pub unnamed : Has f (children v.known v.owned) → ⊥
 
+-- how often the references of v and the entries of tables that it owns name f
+abbrev pub name_count : View → ℕ → ℕ
+name_count v f = times f v.references + times f (children v.known v.owned)
+
 -- no reference, and of what is owned each frame is of data
 pub record OwnsDataAlone (v : View) : Type 0 where
   pub unreferring : v.references ≡ []

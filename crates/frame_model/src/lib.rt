@@ -14,6 +14,7 @@ pub use kind::Kind;
 pub use rule_laws::{
     counts_never_wrap, every_frame_is_reached, lone_owners_have_what_no_other_reaches,
     loose_frames_are_uncounted, new_tables_meet_the_rule, owned_frames_are_apart, reach_is_closed,
-    uncounted_frames_have_one_owner, views_are_sound, views_tell_the_words, whole_stakes_own_all,
+    uncounted_frames_have_one_owner, views_are_sound, views_tell_counts, views_tell_the_words,
+    whole_stakes_own_all,
 };
 pub use view::{Known, View};

@@ -5,7 +5,7 @@ ghost use Rattle.frame_model.specs.declared.view.View.{View};
 ghost use Rattle.frame_model.specs.Words.{Frames, frames_in, kind_at, kind_number, count_at};
 ghost use Rattle.frame_model.specs.Views.{Has, kind_of, known_of, word_of, targets_of, reach};
 ghost use Rattle.frame_model.specs.Views.{IsLoose, IsSound, OwnsDataAlone, first_view};
-ghost use Rattle.frame_model.specs.Views.{whole_stake};
+ghost use Rattle.frame_model.specs.Views.{name_count, whole_stake};
 ghost use Rattle.frame_model.specs.Rule.{At, NoOtherReaches, most_frames, FrameRule};
 
 /// A frame that one view owns is in no other view's reach.
@@ -84,6 +84,17 @@ pub fn reach_is_closed()
 pub fn loose_frames_are_uncounted()
     ensures { (n : ℕ) (m : Frames) (views : List View) → FrameRule n m views
         → (id : ℕ) (v : View) → At views id v → (f : ℕ) → IsLoose v f → count_at m f ≡ 0 }
+{}
+
+/// A count is at least the number of a view's references to the frame and of the entries of tables
+/// that it owns which name it, and of a frame that it owns just that number.
+pub fn views_tell_counts()
+    ensures least { (n : ℕ) (m : Frames) (views : List View) → FrameRule n m views
+        → (id : ℕ) (v : View) → At views id v → (f : ℕ) → f < n
+        → name_count v f ≤ count_at m f }
+    ensures own { (n : ℕ) (m : Frames) (views : List View) → FrameRule n m views
+        → (id : ℕ) (v : View) → At views id v → (f : ℕ) → Has f v.owned
+        → count_at m f ≡ name_count v f }
 {}
 
 /// The rule holds of a new table, whose words are 0 and whose one view owns all frames.

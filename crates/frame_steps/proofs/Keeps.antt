@@ -94,7 +94,8 @@ module _ (n : ℕ) (slots id : ℕ) (me : Mine) where
       let counted = given_up n l (views_of s.views) kept.rule id v at f inside given in
       change_kept n l m (views_of s.views) kept.rule id v
       (part_of v (left_by true v f) (f ∷ v.references) v.stake) at
-      (give_up_change n s.words (views_of s.views) kept.rule kept.size id v at f r y low more few counted)
+      (give_up_change n s.words (views_of s.views) kept.rule kept.size id v at f r y low more few
+      counted)
   gains_as false f given r few s kept at y more =
       let v = me.0.view in
       let l = frames_in s.words in
@@ -118,7 +119,8 @@ module _ (n : ℕ) (slots id : ℕ) (me : Mine) where
       let m = frames_in (set s.words (meta_place f) y) in
       let inside = (kept.rule.agrees id v there).inside f r in
       let more = room_for_one n l (views_of s.views) kept.rule f inside in
-      let rule = rule_set n m s.views id w (gains_as (gives_up v f) f refl r few s kept there y more) in (
+      let rule = rule_set n m s.views id w
+          (gains_as (gives_up v f) f refl r few s kept there y more) in (
         w,
         keeps,
         tt,
@@ -135,7 +137,8 @@ module _ (n : ℕ) (slots id : ℕ) (me : Mine) where
       → (s : State (Unit {0}) Holding) → Kept n s → get_elem? s.views id ≡ some me.0
       → get_or s.words (meta_place f) 0 < 2 ^ 64
       → lost_at (get_or s.words (meta_place f) 0) ≡ o
-      → lost o me.0.view f ≡ part_of me.0.view owned (less_one f me.0.view.references) me.0.view.stake
+      → lost o me.0.view f
+      ≡ part_of me.0.view owned (less_one f me.0.view.references) me.0.view.stake
       → ((g : ℕ) → Has g owned
       → Has g me.0.view.owned ⊎ ((g ≡ f) × (get_or s.words (meta_place f) 0 / 256 ≡ 1)))
       → ((g : ℕ) → Has g me.0.view.owned → Has g owned)

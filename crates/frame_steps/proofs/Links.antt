@@ -4,6 +4,7 @@ use Rattle.std.proofs.lemmas.Bool.{cases_eq, and_right, eq-eqb, ne_eqb, cond-tru
 use Rattle.frame_model.specs.Words.{Frames, kind_at, names, target, links_in, links_below}
 use Rattle.frame_model.specs.Views.{Has, one_if, times, less_one, targets}
 use Rattle.frame_model.proofs.Counts.{links_in_same, links_same, names_zero, names_true}
+pub use Rattle.frame_model.proofs.NameCounts.{targets_none, targets_one, link_times}
 use Rattle.frame_model.proofs.Parts.{times_less}
 use Rattle.frame_model.proofs.Reach.{times_here, times_else}
 use Rattle.frame_steps.specs.Counted.{less_by}
@@ -57,41 +58,11 @@ links_change = below_change
 
 -- ---- what one word names
 
-pub targets_none : (w : ℕ) → w ≡ 0 → targets (w ∷ []) ≡ []
-targets_none w z = cond-true (eqb w 0) [] (target w ∷ []) (eq-eqb w 0 z)
-
-pub targets_one : (w : ℕ) → w ≢ 0 → targets (w ∷ []) ≡ target w ∷ []
-targets_one w ne = cond-false (eqb w 0) [] (target w ∷ []) (ne_eqb w 0 ne)
-
 pub less_none : (w : ℕ) (rs : List ℕ) → w ≡ 0 → less_by w rs ≡ rs
 less_none w rs z = cond-true (eqb w 0) rs (less_one (target w) rs) (eq-eqb w 0 z)
 
 pub less_entry : (w : ℕ) (rs : List ℕ) → w ≢ 0 → less_by w rs ≡ less_one (target w) rs
 less_entry w rs ne = cond-false (eqb w 0) rs (less_one (target w) rs) (ne_eqb w 0 ne)
-
-names_not : (m : Frames) (h g i : ℕ) → target (m.word g i) ≢ h → names m h g i ≡ false
-names_not m h g i ne = and_right (not (eqb (kind_at m g) 0) && not (eqb (m.word g i) 0)) (eqb (target (m.word g i)) h) (ne_eqb (target (m.word g i)) h ne)
-
--- a word of a table is one link or none of each frame
-pub link_times : (m : Frames) (h g i w : ℕ) → m.word g i ≡ w → 0 < kind_at m g → one_if (names m h g i) ≡ times h (targets (w ∷ []))
-link_times m h g i w is table = ⊎_elim
-    (λ (z : w ≡ 0).
-    let a : one_if (names m h g i) ≡ 0 = ap one_if (names_zero m h g i (is ∙ z)) in
-    let b : times h (targets (w ∷ [])) ≡ 0 = ap (λ (xs : List ℕ). times h xs) (targets_none w z) in
-    a ∙ sym b)
-    (λ (ne : w ≡ 0 → ⊥).
-    let b = ap (λ (xs : List ℕ). times h xs) (targets_one w ne) in
-    ⊎_elim
-    (λ (e : h ≡ target w).
-    let a : one_if (names m h g i) ≡ 1 = ap one_if (names_true m h g i table (λ z. ne (sym is ∙ z)) (ap target is ∙ sym e)) in
-    let c = times_here h (target w) [] e in
-    omega arith)
-    (λ (away : h ≡ target w → ⊥).
-    let a : one_if (names m h g i) ≡ 0 = ap one_if (names_not m h g i (λ e. away (sym e ∙ ap target is))) in
-    let c = times_else h (target w) [] away in
-    omega arith)
-    (cases_eq h (target w)))
-    (cases_eq w 0)
 
 -- what leaves the references is what the word names
 pub less_times : (w : ℕ) (rs : List ℕ) (h : ℕ) → (w ≢ 0 → Has (target w) rs) → times h (less_by w rs) + times h (targets (w ∷ [])) ≡ times h rs

@@ -23,7 +23,8 @@ module _ (v : View) (f : ℕ) (kind : Kind) (words : List ℕ) where
 
   pub news_here : known_of (with_known v f kind words).known f
       ≡ record { frame = f; kind = kind; words = words }
-  news_here = known_here (record { frame = f; kind = kind; words = words }) (forget f v.known) f refl
+  news_here =
+      known_here (record { frame = f; kind = kind; words = words }) (forget f v.known) f refl
 
   pub news_else : (g : ℕ) → g ≢ f
       → known_of (with_known v f kind words).known g ≡ known_of v.known g
@@ -59,7 +60,8 @@ module _ (v : View) (f i x : ℕ) where
   put_kind = news_kind v f (kind_of v f) (set (words_of v f) i x) refl
 
   pub put_words_here : words_of (put v f i x) f ≡ set (words_of v f) i x
-  put_words_here = ap (λ (k : Known). k.words) (news_here v f (kind_of v f) (set (words_of v f) i x))
+  put_words_here =
+      ap (λ (k : Known). k.words) (news_here v f (kind_of v f) (set (words_of v f) i x))
 
   pub put_words_else : (g : ℕ) → g ≢ f → words_of (put v f i x) g ≡ words_of v g
   put_words_else g ne =
@@ -69,7 +71,8 @@ module _ (v : View) (f i x : ℕ) where
   put_word_here lt =
       ap (λ (ws : List ℕ). get_or ws i 0) put_words_here ∙ get_or-set_same (words_of v f) i x 0 lt
 
-  pub put_word_else : (g j : ℕ) → ((g ≡ f) × (j ≡ i) → ⊥) → word_of (put v f i x) g j ≡ word_of v g j
+  pub put_word_else : (g j : ℕ) → ((g ≡ f) × (j ≡ i) → ⊥)
+      → word_of (put v f i x) g j ≡ word_of v g j
   put_word_else g j away = ⊎_elim
       (λ (e : g ≡ f).
       subst (λ (y : ℕ). word_of (put v f i x) y j ≡ word_of v y j) (sym e)
@@ -137,6 +140,7 @@ module _ (v : View) (f : ℕ) (kind : Kind) where
 
   pub dressed_reach : IsClear v f → length (words_of v f) ≡ 512 → reach (dressed v f kind) ≡ reach v
   dressed_reach clear whole =
-      let none : targets (words_of v f) ≡ [] = targets_zero (words_of v f) (λ j lt. clear j (omega arith)) in
+      let none : targets (words_of v f) ≡ [] =
+          targets_zero (words_of v f) (λ j lt. clear j (omega arith)) in
       news_within (record { frame = f; kind = kind; words = words_of v f }) v.known depth _
       (by_kind_none kind (words_of v f) none ∙ sym (by_kind_none (kind_of v f) (words_of v f) none))

@@ -1,5 +1,5 @@
 -- Each step of a holder keeps the rule, and tells what it is said to tell.
-use Rattle.std.proofs.Common.{◌≡◌, ℕ, zero, suc, ◌+◌, ◌*◌, ◌/◌, ◌%◌, ◌<◌, ◌≢◌, List, [], ◌∷◌, length, get_or, set, refl, sym, ap, subst, ◌∙◌, ⊎_elim, arith, length-set, get_or-set_other, get_or-set_same}
+use Rattle.std.proofs.Common.{◌≡◌, ℕ, zero, suc, ◌+◌, ◌*◌, ◌/◌, ◌%◌, ◌<◌, ◌≤◌, ◌≢◌, List, [], ◌∷◌, length, get_or, set, refl, sym, ap, subst, ◌∙◌, ⊎_elim, arith, length-set, get_or-set_other, get_or-set_same}
 use mathlib.Core.Option.{some, none}
 use lib.ListN.{get_elem?}
 use Rattle.std.proofs.lemmas.Bool.{cases_eq}
@@ -11,15 +11,18 @@ use Rattle.frame_model.specs.declared.holding.Holding.{Holding}
 use Rattle.frame_model.specs.declared.view.View.{View}
 use Rattle.frame_model.specs.Holdings.{with_view, views_of}
 use Rattle.frame_model.specs.Words.{Frames, frames_in, meta_place, word_place, kind_number, kind_at, count_at, IsMeta, IsEntryAt, names, target}
+use Rattle.frame_model.specs.Views.{name_count}
 use Rattle.frame_model.specs.Views.{Has, kind_of, words_of, word_of, targets, targets_by_kind, reach, IsLoose}
 use Rattle.frame_model.specs.Rule.{At, Descends, FrameRule}
 use Rattle.frame_model.proofs.Covers.{whole_owns}
+use Rattle.frame_model.proofs.NameCounts.{count_least, own_count}
 use Rattle.frame_model.proofs.Counts.{names_data, names_zero, names_same, names_true, links_some}
 use Rattle.frame_model.proofs.Reach.{targets_zero, by_kind_none, kind_number_most}
 use Rattle.frame_model.proofs.Owners.{owned_reached, loose_count}
 use Rattle.frame_model.proofs.Rules.{sound}
 use Rattle.frame_words.specs.Steps.{put, dressed, IsClear}
-use Rattle.frame_words.specs.Plays.{Kept, Mine, Looked, LookedAgain, LookedWhole, LookedAtMeta, DidPut, DidDress}
+use Rattle.frame_words.specs.Plays.{Kept, Mine, Looked, LookedAgain, LookedWhole, LookedAtMeta}
+use Rattle.frame_words.specs.Plays.{DidPut, DidDress}
 use Rattle.frame_words.proofs.Places as places
 use Rattle.frame_words.proofs.Seats.{seen_at, rule_set, now_sound}
 use Rattle.frame_words.proofs.News.{IsNews, news_kept}
@@ -31,14 +34,16 @@ same_words (x ∷ xs) zero = refl
 same_words (x ∷ xs) (suc i) = ap (λ ys. x ∷ ys) (same_words xs i)
 
 -- a load leaves the rule as it was
-stays : (n : ℕ) (s : State (Unit {0}) Holding) (id : ℕ) (me : Mine) (i : ℕ) → Kept n s → get_elem? s.views id ≡ some me.0
+stays : (n : ℕ) (s : State (Unit {0}) Holding) (id : ℕ) (me : Mine) (i : ℕ) → Kept n s
+    → get_elem? s.views id ≡ some me.0
     → Kept n (stepped s i (get_or s.words i 0) id me.1 me.0 keeps)
 stays n s id me i kept at =
     let ws : set s.words i (get_or s.words i 0) ≡ s.words = same_words s.words i in
     let vs : set s.views id me.0 ≡ s.views = set_again s.views id me.0 at in
     record {
       size = ap length ws ∙ kept.size;
-      rule = subst (λ (p : List ℕ × List Holding). FrameRule n (frames_in p.0) (views_of p.1)) (λ k. (sym ws k, sym vs k)) kept.rule;
+      rule = subst (λ (p : List ℕ × List Holding). FrameRule n (frames_in p.0) (views_of p.1))
+          (λ k. (sym ws k, sym vs k)) kept.rule;
     }
 
 module _ (n : ℕ) (slots id : ℕ) (me : Mine) where
@@ -97,9 +102,12 @@ module _ (n : ℕ) (slots id : ℕ) (me : Mine) where
       → Allows (Kept n) slots id me (meta_place f) (λ x. x)
       (LookedAtMeta (step slots (meta_place f) 0 0 none) me)
   looks_at_meta f h s kept _ at _ =
-      let a = kept.rule.agrees id me.0.view (seen_at s.views id me.0 at) in
+      let there = seen_at s.views id me.0 at in
+      let a = kept.rule.agrees id me.0.view there in
+      let inside = a.inside f h in
       let k = a.kind f h in
-      let b = kept.rule.kinds f (a.inside f h) in (
+      let b = kept.rule.kinds f inside in
+      let m = frames_in s.words in (
         me.0,
         keeps,
         tt,
@@ -107,8 +115,16 @@ module _ (n : ℕ) (slots id : ℕ) (me : Mine) where
         record {
           same = refl;
           kind = λ g e.
-              subst (λ (x : ℕ). get_or s.words (f * 513) 0 % 256 ≡ kind_number (kind_of me.0.view x))
+              subst (λ (x : ℕ). m.meta f % 256 ≡ kind_number (kind_of me.0.view x))
               (places.one_meta f g e) (omega arith);
+          least = λ g e.
+              subst (λ (x : ℕ). name_count me.0.view x ≤ m.meta f / 256) (places.one_meta f g e)
+              (count_least n m (views_of s.views) kept.rule id me.0.view there f inside);
+          own = λ g e own.
+              let p = places.one_meta f g e in
+              let mine = subst (λ (x : ℕ). Has x me.0.view.owned) (sym p) own in
+              subst (λ (x : ℕ). m.meta f / 256 ≡ name_count me.0.view x) p
+              (own_count n m (views_of s.views) kept.rule id me.0.view there f mine);
         },
       )
 

@@ -23,13 +23,15 @@ views_set [] id h = refl
 views_set (x ∷ xs) zero h = refl
 views_set (x ∷ xs) (suc id) h = ap (λ (vs : List View). x.view ∷ vs) (views_set xs id h)
 
-views_more : (hs : List Holding) (h : Holding) → views_of (hs ++ h ∷ []) ≡ views_of hs ++ h.view ∷ []
+views_more : (hs : List Holding) (h : Holding)
+    → views_of (hs ++ h ∷ []) ≡ views_of hs ++ h.view ∷ []
 views_more [] h = refl
 views_more (x ∷ xs) h = ap (λ (vs : List View). x.view ∷ vs) (views_more xs h)
 
 module _ (n : ℕ) (m : Frames) (hs : List Holding) (id : ℕ) (h : Holding) where
   -- one holder's view changed
-  pub rule_set : FrameRule n m (set (views_of hs) id h.view) → FrameRule n m (views_of (set hs id h))
+  pub rule_set : FrameRule n m (set (views_of hs) id h.view)
+      → FrameRule n m (views_of (set hs id h))
   rule_set rule = subst (λ (vs : List View). FrameRule n m vs) (sym (views_set hs id h)) rule
 
   -- and a holder came
@@ -45,7 +47,8 @@ module _ (n : ℕ) (m : Frames) (hs : List Holding) (id : ℕ) (h : Holding) whe
       → FrameRule n m (set (set (views_of hs) id h.view) other k.view)
       → FrameRule n m (views_of (set (set hs id h) other k))
   rule_set_two other k rule =
-      let e : views_of (set (set hs id h) other k) ≡ set (set (views_of hs) id h.view) other k.view =
+      let e : views_of (set (set hs id h) other k)
+          ≡ set (set (views_of hs) id h.view) other k.view =
       views_set (set hs id h) other k
       ∙ ap (λ (vs : List View). set vs other k.view) (views_set hs id h) in
       subst (λ (vs : List View). FrameRule n m vs) (sym e) rule

@@ -12,4 +12,5 @@ load-requires c =
 pub returns-clause-all : goal.returns-clause-all
 returns-clause-all c =
     let e = c.load.ensures.2 in
-    subst OwnsAll (sym (ap (λ (m : Mine). m.0.view) e.same)) (e.all c.requires.alone c.requires.whole)
+    subst OwnsAll (sym (ap (λ (m : Mine). m.0.view) e.same))
+    (e.all c.requires.alone c.requires.whole)

@@ -11,9 +11,11 @@ join-requires-clause-few c =
 
 pub tell_whole-requires-clause-alone : goal.tell_whole-requires-clause-alone
 tell_whole-requires-clause-alone c =
-    subst OwnsDataAlone (sym (c.join.ensures.view ∙ (λ k. joined (c.requires.kept k) (c.requires.written k)))) four.alone
+    subst OwnsDataAlone (sym (c.join.ensures.view
+    ∙ (λ k. joined (c.requires.kept k) (c.requires.written k)))) four.alone
 
 pub tell_whole-requires-clause-whole : goal.tell_whole-requires-clause-whole
 tell_whole-requires-clause-whole c =
-    ap (λ (v : View). v.stake) (c.join.ensures.view ∙ (λ k. joined (c.requires.kept k) (c.requires.written k)))
+    ap (λ (v : View). v.stake)
+    (c.join.ensures.view ∙ (λ k. joined (c.requires.kept k) (c.requires.written k)))
     ∙ four.whole
