@@ -1,5 +1,5 @@
 //! Values from outside: worked cases of the manual, and those of a C compiler.
-use super::*;
+use rv_base::*;
 use std::process::Abort;
 
 mod vectors;
