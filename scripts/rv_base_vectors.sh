@@ -1,5 +1,5 @@
 #!/bin/sh
-# What a C compiler gives for each operation of rv_base: crates/rv_base_tests/src/tests/vectors.rt.
+# What a C compiler gives for each operation of rv_base: crates/rv_base/src/tests/vectors.rt.
 #
 #   rv_base_vectors.sh           prints the file
 #   rv_base_vectors.sh --check   compares it with the tree's; status 1 where they differ
@@ -9,7 +9,7 @@
 set -eu
 
 CDPATH='' cd -- "$(dirname -- "$0")/.."
-made=crates/rv_base_tests/src/tests/vectors.rt
+made=crates/rv_base/src/tests/vectors.rt
 
 work=$(mktemp -d)
 trap 'rm -rf -- "$work"' EXIT

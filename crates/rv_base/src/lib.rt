@@ -13,3 +13,6 @@ pub use low::{addw, divuw, divw, mulw, remuw, remw, sllw, sraw, srlw, subw};
 pub use product::{mul, mulh, mulhsu, mulhu};
 pub use quotient::{div, divu, rem, remu};
 pub use whole::{add, and, or, sll, slt, sltu, sra, srl, sub, xor};
+
+#[cfg(test)]
+mod tests;

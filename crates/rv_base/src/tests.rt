@@ -1,5 +1,5 @@
 //! Values from outside: worked cases of the manual, and those of a C compiler.
-use rv_base::*;
+use super::*;
 use std::process::Abort;
 
 mod vectors;
