@@ -1,6 +1,6 @@
 #!/bin/sh
 # Words of RV64IM as GNU as spells them, to be compared with what rv_code decodes:
-# crates/rv_code/src/tests/table.rt.
+# crates/rv_code_tests/src/tests/table.rt.
 #
 #   rv_code_table.sh             prints the file
 #   rv_code_table.sh --check     compares it with the tree's; status 1 where they differ
@@ -11,7 +11,7 @@
 set -eu
 
 CDPATH='' cd -- "$(dirname -- "$0")/.."
-made=crates/rv_code/src/tests/table.rt
+made=crates/rv_code_tests/src/tests/table.rt
 prefix=riscv64-unknown-elf
 
 work=$(mktemp -d)

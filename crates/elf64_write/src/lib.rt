@@ -4,8 +4,3 @@
 mod write;
 
 pub use write::write_image;
-
-#[cfg(test)]
-mod read_tests;
-#[cfg(test)]
-mod tests;

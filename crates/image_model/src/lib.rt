@@ -19,6 +19,3 @@ pub use start::Start;
 pub use start_laws::{
     one_regions, start_has_bytes, start_has_permissions, start_is_joined, start_is_sound,
 };
-
-#[cfg(test)]
-mod tests;

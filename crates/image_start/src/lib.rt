@@ -10,6 +10,3 @@ mod regions;
 mod starting;
 
 pub use starting::start_of;
-
-#[cfg(test)]
-mod tests;

@@ -11,6 +11,4 @@ pub use disassembly::disassemble;
 pub use fault::AsmFault;
 
 #[cfg(test)]
-mod tests;
-#[cfg(test)]
 mod worked;

@@ -12,6 +12,3 @@ pub use decoder::decode;
 pub use encoder::encode;
 pub use instruction_model::{BranchOp, ImmOp, ImmWOp, Inst, LoadOp, RegOp, RegWOp, StoreOp};
 pub use sound::is_sound;
-
-#[cfg(test)]
-mod tests;

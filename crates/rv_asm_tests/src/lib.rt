@@ -8,4 +8,6 @@ mod rows;
 #[cfg(test)]
 mod tests;
 #[cfg(test)]
+mod text_tests;
+#[cfg(test)]
 mod word_tests;

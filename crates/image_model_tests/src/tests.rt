@@ -1,6 +1,6 @@
 //! The public calls, each once, and which images are valid.
 
-use super::*;
+use image_model::*;
 use std::alloc::{AllocError, Global};
 use std::test::Fail;
 

@@ -1,6 +1,6 @@
 mod table;
 
-use crate::{ImmOp, Inst, decode, encode, is_sound};
+use rv_code::{ImmOp, Inst, decode, encode, is_sound};
 use std::test::Fail;
 
 #[test]

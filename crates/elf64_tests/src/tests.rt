@@ -1,6 +1,6 @@
 //! The file of an image, byte by byte.
 
-use super::*;
+use elf64_write::*;
 use image_model::{Bytes, Image, Segment, Segments};
 use std::test::Fail;
 

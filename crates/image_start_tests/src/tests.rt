@@ -1,7 +1,7 @@
 //! Starts of small images. All values are by hand: page 16 begins at 0x1_0000.
 
-use super::*;
 use image_model::{Bytes, Image, Region, Segment, Segments, Start};
+use image_start::*;
 use std::alloc::{AllocError, Global};
 use std::test::Fail;
 

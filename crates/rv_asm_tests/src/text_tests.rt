@@ -1,7 +1,7 @@
 //! Lines of instruction words, worked out by hand from the RISC-V unprivileged manual ("RV32/64G
 //! Instruction Set Listings"), and a text with its ELF file.
 
-use super::*;
+use rv_asm::*;
 use std::test::Fail;
 
 #[test]

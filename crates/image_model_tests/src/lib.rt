@@ -1,0 +1,5 @@
+//! Images and starts, tried on `image_model`.
+#![tactic(auto)]
+
+#[cfg(test)]
+mod tests;
