@@ -10,9 +10,10 @@ ghost use Rattle.frame_words.specs.declared.part.Part.TheVariants.{Pile, Root};
 ghost use Rattle.frame_words.specs.Steps.{pile_of, tree_of, kept_of, given_of, joined};
 ghost use Rattle.frame_steps.specs.declared.lost.Lost.{Lost};
 ghost use Rattle.frame_steps.specs.declared.lost.Lost.TheVariants.{Owned, Shared};
-ghost use Rattle.frame_steps.specs.Counted.{entered, gained, lost};
+ghost use Rattle.frame_steps.specs.Counted.{entered, MayStand, gained, lost};
 
-/// A reference becomes the new entry, and what the old entry named becomes a reference.
+/// A reference becomes the new entry, and what the old entry named becomes a reference. What else
+/// had count 0 has it still.
 pub fn entries_trade_references()
     ensures new { (v : View) (f i x : ℕ) → word_of v f i ≡ 0 → (x ≡ 0 → ⊥)
         → (entered v f i x).references ≡ less_one (target x) v.references }
@@ -21,6 +22,9 @@ pub fn entries_trade_references()
     ensures both { (v : View) (f i x : ℕ) → (word_of v f i ≡ 0 → ⊥) → (x ≡ 0 → ⊥)
         → (entered v f i x).references
         ≡ target (word_of v f i) ∷ less_one (target x) v.references }
+    ensures loose { (v : View) (f i x : ℕ) → MayStand v f x
+        → (g : ℕ) → ((word_of v f i ≡ 0 → ⊥) → g ≡ target (word_of v f i) → ⊥)
+        → IsLoose v g → IsLoose (entered v f i x) g }
 {}
 
 /// A gain gives up the tree of an owned frame that something names, and of others nothing.
