@@ -1,3 +1,4 @@
+pub mod Entered
 pub mod Giving
 pub mod Joined
 pub mod NewPages

@@ -8,8 +8,10 @@ use Rattle.frame_model.specs.declared.kind.Kind.TheVariants.{Data}
 use Rattle.frame_model.specs.declared.view.Known.{Known}
 use Rattle.frame_model.specs.declared.view.View.{View}
 use Rattle.frame_model.specs.Words.{depth}
+use Rattle.frame_model.specs.Views.{Has, children, targets_of, IsLoose}
 use Rattle.frame_model.specs.Views.{forget, known_of, kind_of, words_of, word_of, targets}
 use Rattle.frame_model.specs.Views.{targets_by_kind, reach, with_known}
+use Rattle.frame_model.proofs.Reach.{children_same}
 use Rattle.frame_model.proofs.Reach.{known_here, known_else, forget_else, news_within}
 use Rattle.frame_model.proofs.Reach.{targets_zero, by_kind_none}
 use Rattle.frame_words.specs.Steps.{put, dressed, IsClear}
@@ -53,6 +55,9 @@ module _ (v : View) (f : ℕ) (kind : Kind) (words : List ℕ) where
       (λ (ne : g ≢ f). ap (λ (k : Known). k.words) (news_else g ne))
       (cases_eq g f)
 
+no_targets : (k : Known) → k.kind ≡ Data → targets_of k ≡ []
+no_targets k is = ap (λ (x : Kind). targets_by_kind x k.words) is
+
 -- ---- one word
 
 module _ (v : View) (f i x : ℕ) where
@@ -95,6 +100,29 @@ module _ (v : View) (f i x : ℕ) where
       λ ws. ap (λ (k : Kind). targets_by_kind k ws) is in
       news_within (record { frame = f; kind = kind_of v f; words = set (words_of v f) i x })
       v.known depth _ (none (set (words_of v f) i x) ∙ sym (none (words_of v f)))
+
+  -- of data the words name nothing, whatever they are
+  put_targets : kind_of v f ≡ Data → (g : ℕ)
+      → targets_of (known_of (put v f i x).known g) ≡ targets_of (known_of v.known g)
+  put_targets is g = ⊎_elim
+      (λ (e : g ≡ f).
+      let was : kind_of v g ≡ Data = ap (λ (y : ℕ). kind_of v y) e ∙ is in
+      no_targets (known_of (put v f i x).known g) (put_kind g ∙ was)
+      ∙ sym (no_targets (known_of v.known g) was))
+      (λ (ne : g ≢ f).
+      ap targets_of (news_else v f (kind_of v f) (set (words_of v f) i x) g ne))
+      (cases_eq g f)
+
+  pub put_children : kind_of v f ≡ Data → (fs : List ℕ)
+      → children (put v f i x).known fs ≡ children v.known fs
+  put_children is fs = children_same (put v f i x).known v.known fs (put_targets is)
+
+  pub put_loose : kind_of v f ≡ Data → (g : ℕ) → IsLoose v g → IsLoose (put v f i x) g
+  put_loose is g loose = record {
+    owned = loose.owned;
+    unreferred = loose.unreferred;
+    unnamed = λ h. loose.unnamed (subst (λ (xs : List ℕ). Has g xs) (put_children is v.owned) h);
+  }
 
   -- an entry is such a word
   pub entered_owned : (entered v f i x).owned ≡ v.owned
@@ -141,6 +169,35 @@ module _ (v : View) (f : ℕ) (kind : Kind) where
   pub dressed_reach : IsClear v f → length (words_of v f) ≡ 512 → reach (dressed v f kind) ≡ reach v
   dressed_reach clear whole =
       let none : targets (words_of v f) ≡ [] =
-          targets_zero (words_of v f) (λ j lt. clear j (omega arith)) in
+      targets_zero (words_of v f) (λ j lt. clear j (omega arith)) in
       news_within (record { frame = f; kind = kind; words = words_of v f }) v.known depth _
       (by_kind_none kind (words_of v f) none ∙ sym (by_kind_none (kind_of v f) (words_of v f) none))
+
+  dressed_targets : IsClear v f → length (words_of v f) ≡ 512 → (g : ℕ)
+      → targets_of (known_of (dressed v f kind).known g) ≡ targets_of (known_of v.known g)
+  dressed_targets clear whole g = ⊎_elim
+      (λ (e : g ≡ f).
+      let none : targets (words_of v f) ≡ [] =
+      targets_zero (words_of v f) (λ j lt. clear j (omega arith)) in
+      let was : targets (words_of v g) ≡ [] =
+      ap (λ (y : ℕ). targets (words_of v y)) e ∙ none in
+      let now : targets (words_of (dressed v f kind) g) ≡ [] =
+      ap targets (dressed_words g) ∙ was in
+      by_kind_none (kind_of (dressed v f kind) g) (words_of (dressed v f kind) g) now
+      ∙ sym (by_kind_none (kind_of v g) (words_of v g) was))
+      (λ (ne : g ≢ f). ap targets_of (news_else v f kind (words_of v f) g ne))
+      (cases_eq g f)
+
+  pub dressed_children : IsClear v f → length (words_of v f) ≡ 512 → (fs : List ℕ)
+      → children (dressed v f kind).known fs ≡ children v.known fs
+  dressed_children clear whole fs =
+      children_same (dressed v f kind).known v.known fs (dressed_targets clear whole)
+
+  pub dressed_loose : IsClear v f → length (words_of v f) ≡ 512 → (g : ℕ) → IsLoose v g
+      → IsLoose (dressed v f kind) g
+  dressed_loose clear whole g loose = record {
+    owned = loose.owned;
+    unreferred = loose.unreferred;
+    unnamed = λ h. loose.unnamed
+        (subst (λ (xs : List ℕ). Has g xs) (dressed_children clear whole v.owned) h);
+  }

@@ -8,5 +8,6 @@ mod parts;
 
 pub use pages::{dresses_change_one_kind, entries_change_one_word, puts_change_one_word};
 pub use parts::{
-    entries_trade_references, gains_give_up_trees, joins_keep_what_was_known, roots_go_whole,
+    entries_trade_references, gains_give_up_trees, joins_keep_what_was_known, loses_give_back,
+    piles_go_alone, roots_go_whole,
 };

@@ -1,3 +1,4 @@
+use Rattle.frame_views.proofs.NewPages.{dressed_loose}
 use Rattle.frame_views.proofs.NewPages.{dressed_kind_here, dressed_kind_else, dressed_words, dressed_reach}
 use Rattle.frame_views.proofs.pages.dresses_change_one_kind.Goals as goal
 
@@ -12,3 +13,6 @@ returns-clause-words c = dressed_words
 
 pub returns-clause-reach : goal.returns-clause-reach
 returns-clause-reach c = dressed_reach
+
+pub returns-clause-loose : goal.returns-clause-loose
+returns-clause-loose c = dressed_loose

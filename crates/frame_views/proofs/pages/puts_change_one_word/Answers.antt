@@ -1,3 +1,4 @@
+use Rattle.frame_views.proofs.NewPages.{put_loose}
 use Rattle.frame_views.proofs.NewPages.{put_word_here, put_word_else, put_kind, put_reach}
 use Rattle.frame_views.proofs.pages.puts_change_one_word.Goals as goal
 
@@ -12,3 +13,6 @@ returns-clause-kinds c = put_kind
 
 pub returns-clause-reach : goal.returns-clause-reach
 returns-clause-reach c = put_reach
+
+pub returns-clause-loose : goal.returns-clause-loose
+returns-clause-loose c = put_loose
