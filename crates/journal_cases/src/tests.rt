@@ -1,4 +1,4 @@
-//! Journals, and lines of events.
-
 mod journals;
 mod lines;
+mod slow;
+mod variants;
