@@ -184,6 +184,7 @@ pub start_pages-inside : (segments : List Segment) (f : ℕ → Permission)
     → AreInRegions (regions_of f 0 page_limit) (pages_of segments f 0 page_limit)
 start_pages-inside segments f =
     let given : (page : ℕ) → page < page_limit
-    → permission_in (regions_of f 0 page_limit) page ≡ f page = λ page lt. regions_from_0 f page_limit page
+    → permission_in (regions_of f 0 page_limit) page ≡ f page = λ page lt.
+    regions_from_0 f page_limit page
     ∙ cond-true (nat_lt page page_limit) (f page) no_permission (lt-ltb page page_limit lt) in
     pages_of-inside segments f (regions_of f 0 page_limit) given 0 page_limit (omega arith)
