@@ -38,16 +38,16 @@ pub enum StepEnd {
     /// The instruction raises an exception: its cause and trap value (RISC-V privileged manual,
     /// "Machine Cause Register" and "Machine Trap Value Register").
     Trap { cause: u64, tval: u64 },
-    /// The instruction stores, and more frames are needed than the space has spares.
+    /// The instruction would retire, and takes more frames than the space has spares.
     NeedFrames,
-    /// Memory ran out.
+    /// The instruction would retire, and the space lacks the memory for it.
     Memory,
 }
 
 /// Does the instruction at the program counter. It retires, or it is an ECALL, which is left to
-/// the caller, or it raises an exception, by its cause and trap value. `NeedFrames` comes where
-/// it is a store that takes more frames than the space has spares, and `Memory` where the space
-/// ran out of memory; then it can be tried again.
+/// the caller, or it raises an exception, by its cause and trap value. `NeedFrames` comes exactly
+/// where it is a store that takes more frames than the space has spares, and `Memory` where it is
+/// one for which the space lacks memory; then it can be tried again.
 #[inline]
 pub fn step<S: Space>(hart: &mut Hart, space: &mut S) -> StepEnd
     requires { S.finished space.old ≡ true }

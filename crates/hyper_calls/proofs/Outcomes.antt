@@ -4,9 +4,10 @@ use Rattle.std.proofs.Common.{if◌then◌else◌, None, subst}
 use Rattle.std.proofs.Common.{List, [], ◌∷◌, length, refl, sym, ap, ◌∙◌, inl, inr}
 use Rattle.std.proofs.lemmas.Bool.{cases_eq, eqb-true, and_parts, and_from, le-leb, true≢false}
 use Rattle.machine_model.specs.Hypercall.{Outcome, Done, Rests, Halts, Unknown, outcome, waits}
-use Rattle.machine_model.specs.Hypercall.{console_writes, fits_console, net_writes, fits_net}
-use Rattle.machine_model.specs.Hypercall.{net_reads, after_packet, after_result, ok, again, invalid}
-use Rattle.machine_model.specs.Hypercall.{net_read, clock_read, console_write, wait, net_write, halt}
+use Rattle.machine_model.specs.Hypercall.{fits_console, fits_net}
+use Rattle.machine_model.specs.Hypercall.{net_reads, after_packet, after_result, invalid}
+use Rattle.machine_model.specs.Hypercall.{clock_read, console_write, wait, net_write, net_read}
+use Rattle.machine_model.specs.Hypercall.{halt}
 use Rattle.machine_model.specs.Machine.{Machine, register, is_writable, range_passes, least_failing}
 use Rattle.machine_model.specs.Machine.{with_written}
 use Rattle.machine_model.proofs.Choices.{of_either}

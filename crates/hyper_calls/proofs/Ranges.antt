@@ -40,18 +40,6 @@ module _ {T : Type 0} (lacks passes : Bool) (cause : ℕ) (r : Result T Access) 
       e ends)
   write_refused_by code addr (Some a) h e ends = h
 
-  memory_of : (Memory ≡ NeedFrames) ⊎ ((Memory ≡ Memory) × (lacks ≡ true)) → lacks ≡ true
-  memory_of (inl e) = cc
-  memory_of (inr e) = e.1
-
-  write_memory_by : (failing : Option ℕ) → r ≡ Err Memory → EndsWrite lacks cause failing r →
-      lacks ≡ true
-  write_memory_by None e ends =
-      memory_of
-      (IfErr-at_err (λ access. (access ≡ NeedFrames) ⊎ ((access ≡ Memory) × (lacks ≡ true)))
-      e ends)
-  write_memory_by (Some a) e ends = cc
-
 pub read_done : {T : Type 0} (test : ℕ → Bool) (at n cause : ℕ) (r : Result T Access) (v : T) →
     r ≡ Ok v → EndsRead cause (least_failing test at n) r → range_passes test at n ≡ true
 read_done test at n cause r v e ends =
@@ -65,19 +53,15 @@ read_refused test at n cause r code addr e ends =
     read_refused_by false (range_passes test at n) cause r code addr (least_failing test at n)
     (least_failing-passes test at n) e ends
 
-pub write_done : {T : Type 0} (lacks : Bool) (test : ℕ → Bool) (at n cause : ℕ) (r : Result T Access) (v : T) →
-    r ≡ Ok v → EndsWrite lacks cause (least_failing test at n) r → range_passes test at n ≡ true
+pub write_done : {T : Type 0} (lacks : Bool) (test : ℕ → Bool) (at n cause : ℕ)
+    (r : Result T Access) (v : T) → r ≡ Ok v → EndsWrite lacks cause (least_failing test at n) r → range_passes test at n ≡ true
 write_done lacks test at n cause r v e ends =
     write_done_by lacks (range_passes test at n) cause r v (least_failing test at n)
     (least_failing-passes test at n) e ends
 
-pub write_refused : {T : Type 0} (lacks : Bool) (test : ℕ → Bool) (at n cause : ℕ) (r : Result T Access)
-    (code addr : ℕ) → r ≡ Err (Fault code addr) →
+pub write_refused : {T : Type 0} (lacks : Bool) (test : ℕ → Bool) (at n cause : ℕ)
+    (r : Result T Access) (code addr : ℕ) → r ≡ Err (Fault code addr) →
     EndsWrite lacks cause (least_failing test at n) r → range_passes test at n ≡ false
 write_refused lacks test at n cause r code addr e ends =
     write_refused_by lacks (range_passes test at n) cause r code addr (least_failing test at n)
     (least_failing-passes test at n) e ends
-
-pub write_memory : {T : Type 0} (lacks : Bool) (cause : ℕ) (r : Result T Access)
-    (failing : Option ℕ) → r ≡ Err Memory → EndsWrite lacks cause failing r → lacks ≡ true
-write_memory lacks cause r failing e ends = write_memory_by lacks true cause r failing e ends

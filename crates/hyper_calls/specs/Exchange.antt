@@ -20,11 +20,6 @@ abbrev pub pieces : (sizes bytes : List ℕ) → List (List ℕ)
 pieces [] bytes = []
 pieces (n ∷ ns) bytes = take n bytes ∷ pieces ns (drop n bytes)
 
--- the bytes of the next packet, of which there are none where none is queued
-abbrev pub first_packet : List (List ℕ) → List ℕ
-first_packet [] = []
-first_packet (p ∷ ps) = p
-
 -- the rooms for what a run writes, and how much of them is taken
 pub record FitsRooms (queued read : ℕ) (sizes : List ℕ) (count used bytes shown text : ℕ)
     : Type 0 where

@@ -12,7 +12,8 @@ use Rattle.machine_run.specs.Frames.{WantsFrames, WantsRightly, IsUndone}
 use Rattle.machine_run.specs.Turns.{CountedDoes, UncountedDoes}
 use Rattle.machine_run.specs.declared.limits.Part.{Part}
 use Rattle.machine_run.specs.declared.limits.RunEnd.{RunEnd}
-use Rattle.machine_run.specs.declared.limits.RunEnd.TheVariants.{Rest, Trigger, Halt, Fault, Budget, Paused, NeedFrames, Memory}
+use Rattle.machine_run.specs.declared.limits.RunEnd.TheVariants.{Rest, Trigger, Halt, Fault, Budget}
+use Rattle.machine_run.specs.declared.limits.RunEnd.TheVariants.{Paused, NeedFrames, Memory}
 use Rattle.machine_run.specs.declared.turn.Turn.TheVariants.{Uncounted}
 
 stays : (clock : ℕ) (limits : Limits) (from : ℕ) (m : Machine) (number : ℕ) (here : Machine)

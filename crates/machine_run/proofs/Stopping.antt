@@ -1,5 +1,6 @@
 -- Where one call of a run stops though the run doesn't.
-use Rattle.std.proofs.Common.{◌≡◌, ◌≢◌, ◌↔◌, ℕ, ◌+◌, ◌-◌, ◌<◌, ◌≤◌, Bool, true, false, Option, None, Some, IfSome, refl, sym, subst, ◌∙◌, arith}
+use Rattle.std.proofs.Common.{◌≡◌, ◌≢◌, ◌↔◌, ℕ, ◌+◌, ◌-◌, ◌<◌, ◌≤◌, Bool, true, false}
+use Rattle.std.proofs.Common.{Option, None, Some, IfSome, refl, sym, subst, ◌∙◌, arith}
 use Rattle.std.proofs.lemmas.Bool.{true≢false}
 use Rattle.machine_model.specs.Machine.{Machine}
 use Rattle.machine_run.specs.Continued.{limits_of, RunsTo}
@@ -9,7 +10,8 @@ use Rattle.machine_run.specs.Stopping.{Pauses, IsUnstopped, StopsForFrames}
 use Rattle.machine_run.specs.declared.limits.Limits.{Limits}
 use Rattle.machine_run.specs.declared.limits.Part.{Part}
 use Rattle.machine_run.specs.declared.limits.RunEnd.{RunEnd}
-use Rattle.machine_run.specs.declared.limits.RunEnd.TheVariants.{Rest, Trigger, Halt, Fault, Budget, Paused, NeedFrames, Memory}
+use Rattle.machine_run.specs.declared.limits.RunEnd.TheVariants.{Rest, Trigger, Halt, Fault, Budget}
+use Rattle.machine_run.specs.declared.limits.RunEnd.TheVariants.{Paused, NeedFrames, Memory}
 
 -- what is said of a part is said of its call
 pub moved : (T : Limits → ℕ → Machine → Type 0) (l l' : Limits) (f f' : ℕ) (m m' : Machine) →

@@ -11,6 +11,7 @@ mod turn;
 pub use limits::{Limits, Progress, RunEnd};
 pub use part_laws::{parts_are_the_run, parts_join};
 pub use running::run;
+pub use space_api::parts_spend_together;
 pub use steps::Steps;
 
 #[cfg(test)]

@@ -1,9 +1,10 @@
 -- Larger sets of pages take more frames, and what parts spend adds up.
-use Rattle.std.proofs.Common.{◌≡◌, ℕ, zero, suc, ◌+◌, ◌-◌, ◌*◌, ◌/◌, ◌^◌, ◌≤◌, ◌<◌, Bool, true, false}
-use Rattle.std.proofs.Common.{◌||◌, if◌then◌else◌, List, refl, sym, ap, ◌∙◌, inl, inr, arith, subst}
+use Rattle.std.proofs.Common.{◌≡◌, ℕ, zero, suc, ◌+◌, ◌-◌, ◌*◌, ◌/◌, ◌^◌, ◌≤◌, ◌<◌, Bool, true}
+use Rattle.std.proofs.Common.{false, if◌then◌else◌, refl, ap, ◌∙◌, inl, inr, arith}
 use Rattle.std.proofs.lemmas.Bool.{or_cases, or_left, or_right}
 use Rattle.std.proofs.lemmas.List.Sums.{sum_by-le-sum_by}
 use Rattle.image_model.specs.Pages.{page_limit}
+use Rattle.machine_model.specs.Loaded.{no_page}
 use Rattle.machine_model.specs.Machine.{count_below, with_written}
 use Rattle.space_api.specs.Frames.{levels, some_written, spans_at, frames_of, need}
 use Rattle.space_api.specs.Frames.{LacksFrames, Spent}
@@ -71,6 +72,31 @@ spans_are_pages written =
     (λ span. let same : span * 2 ^ 0 ≡ span = omega arith in
     ap (λ first. some_written written first 1) same ∙ some_written-one written span) page_limit
 
+-- ---- no page takes no frame
+
+count_below-none : (f : ℕ → Bool) → ((k : ℕ) → f k ≡ false) → (n : ℕ) → count_below f n ≡ 0
+unfolding count_below
+count_below-none f h zero = refl
+count_below-none f h (suc n) = rw (h n, count_below-none f h n) refl
+
+some_written-none : (first n : ℕ) → some_written no_page first n ≡ false
+unfolding some_written
+some_written-none first zero = refl
+some_written-none first (suc n) = rw (some_written-none first n) refl
+
+spans_at-none : (b : ℕ) → spans_at b no_page ≡ 0
+spans_at-none b =
+    count_below-none (λ span. some_written no_page (span * 2 ^ b) (2 ^ b))
+    (λ span. some_written-none (span * 2 ^ b) (2 ^ b)) (page_limit / 2 ^ b)
+
+pub no_frames : frames_of no_page ≡ 0
+unfolding frames_of
+no_frames =
+    let a = spans_at-none 0 in
+    let b = spans_at-none 9 in
+    let c = spans_at-none 18 in
+    omega arith
+
 -- ---- what is spent
 
 pub spent_join : (takes : Bool) (a : ℕ) (before : ℕ → Bool) (b : ℕ) (mid : ℕ → Bool) (c : ℕ)
@@ -114,7 +140,8 @@ few_by true spares f g few = (refl, omega arith)
 few_by false spares f g few = absurd (omega arith)
 
 pub need_lacks : (takes : Bool) (spares : ℕ) (written : ℕ → Bool) (at n : ℕ)
-    → spares < need takes written at n → LacksFrames takes spares written (with_written at n written)
+    → spares < need takes written at n
+    → LacksFrames takes spares written (with_written at n written)
 need_lacks takes spares written at n few =
     let p = few_by takes spares (frames_of written) (frames_of (with_written at n written)) few in
     record { takes_frames = p.0; few = p.1 }
@@ -125,7 +152,8 @@ lacks_by true spares f g e few = omega arith
 lacks_by false spares f g e few = cc
 
 pub lacks_need : (takes : Bool) (spares : ℕ) (written : ℕ → Bool) (at n : ℕ)
-    → LacksFrames takes spares written (with_written at n written) → spares < need takes written at n
+    → LacksFrames takes spares written (with_written at n written)
+    → spares < need takes written at n
 lacks_need takes spares written at n lacks =
     lacks_by takes spares (frames_of written) (frames_of (with_written at n written))
     lacks.takes_frames lacks.few

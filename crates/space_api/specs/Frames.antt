@@ -4,8 +4,8 @@ use Rattle.std.specs.Prelude.{false, ◌||◌, if◌then◌else◌, List, [], �
 use Rattle.image_model.specs.Pages.{page_limit}
 use Rattle.machine_model.specs.Machine.{count_below, with_written}
 
--- A frame of a level b stands for 2 ^ b pages in a row, a span. A page is a span of its own, and two
--- levels of tables stand for 2 ^ 21 and 2 ^ 30 bytes.
+-- A frame of a level b stands for 2 ^ b pages in a row, a span. A page is a span of its own, and
+-- two levels of tables stand for 2 ^ 21 and 2 ^ 30 bytes.
 abbrev pub levels : List ℕ
 levels = 0 ∷ 9 ∷ 18 ∷ []
 

@@ -3,16 +3,19 @@
 
 ghost use Rattle.std.specs.Prelude.{◌≡◌, ℕ, ◌+◌, ◌≤◌, ◌<◌, ◌↔◌, Bool, true};
 ghost use Rattle.image_model.specs.Pages.{page_limit};
+ghost use Rattle.machine_model.specs.Loaded.{no_page};
 ghost use Rattle.machine_model.specs.Machine.{count_below, with_written};
 ghost use Rattle.space_api.specs.Frames.{spans_at, frames_of, need, LacksFrames, Spent};
 
-/// Each page is a span of its own, and a set with more pages takes no fewer frames.
+/// Each page is a span of its own, and a set with more pages takes no fewer frames. No page takes
+/// none.
 pub fn frames_rise()
     ensures pages { (written : ℕ → Bool) →
         spans_at 0 written ≡ count_below written page_limit }
     ensures more { (before after : ℕ → Bool) →
         ((page : ℕ) → before page ≡ true → after page ≡ true) →
         frames_of before ≤ frames_of after }
+    ensures none { frames_of no_page ≡ 0 }
 {}
 
 /// A write that needs more frames than there are spares lacks frames, and one that spends at most
