@@ -1,3 +1,6 @@
+//! Journals, and lines of events.
+
+mod edges;
 mod journals;
 mod lines;
 mod slow;
