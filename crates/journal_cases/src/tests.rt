@@ -3,5 +3,6 @@
 mod edges;
 mod journals;
 mod lines;
+mod reading;
 mod slow;
 mod variants;

@@ -69,7 +69,8 @@ const LEGAL: [Legal; 12] = [
         (3, 1, 0, 2, 64, 3),
         "0/1",
         "start 1 0 0|deploy 1 image 1 1|built 1 0 1|keep 0|answer 1 1 0|end 1|start 2 1 0|\
-         deploy 2 image 2 1|built 2 1 1|keep 1|answer 2 2 0|end 2|start 3 0 0|deploy 3 0 3 1|drop 1",
+         deploy 2 image 2 1|built 2 1 1|keep 1|answer 2 2 0|end 2|start 3 0 0|\
+         deploy 3 0 3 1|drop 1",
         (3, 2, 1, 0, 0, 0),
     ),
     (
@@ -189,7 +190,8 @@ const BROKEN: [Broken; 16] = [
         (3, 1, 0, 2, 64, 3),
         "0/1",
         "start 1 0 0|deploy 1 image 1 1|built 1 0 1|keep 0|answer 1 1 0|end 1|start 2 1 0|\
-         deploy 2 image 2 1|built 2 1 1|keep 1|answer 2 2 0|end 2|start 3 0 0|deploy 3 0 3 1|drop 0",
+         deploy 2 image 2 1|built 2 1 1|keep 1|answer 2 2 0|end 2|start 3 0 0|\
+         deploy 3 0 3 1|drop 0",
         14,
     ),
     // A layer is left out.

@@ -18,7 +18,8 @@ const WHOLE: [Row; 9] = [
     (
         (64, 1, 1, 1, 64, 1),
         "0",
-        "start 1 0 0|deploy 1 image 1 1|refill 1 0 16|built 1 0 1|keep 0|answer 1 1 0|end 1|back 13",
+        "start 1 0 0|deploy 1 image 1 1|refill 1 0 16|built 1 0 1|keep 0|answer 1 1 0|end 1|\
+         back 13",
     ),
     (
         (64, 1, 1, 1, 64, 3),
