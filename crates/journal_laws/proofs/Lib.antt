@@ -1,4 +1,5 @@
 pub mod Answering
+pub mod Early
 pub mod Folding
 pub mod Listing
 pub mod Naming

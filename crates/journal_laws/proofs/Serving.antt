@@ -131,10 +131,10 @@ no_answer sizes es s c v h l = (reached_tied sizes es s h).ties.no_more c v l
 
 -- # What a context served, event by event
 
-abbrev served_in : List RequestState → List ContextState → ℕ → List ℕ
+abbrev pub served_in : List RequestState → List ContextState → ℕ → List ℕ
 served_in rs xs c = answers_below c (used_in xs c) rs
 
-served_is : (s : State) (c : ℕ) → served s c ≡ served_in s.requests s.contexts c
+pub served_is : (s : State) (c : ℕ) → served s c ≡ served_in s.requests s.contexts c
 unfolding served legal.answered_by
 served_is s c = refl
 
@@ -177,7 +177,7 @@ answer_either true p rs xs i c u d e a n = let P : ℕ → Type 0 = λ z.
 answer_either false p rs xs i c u d e a n = answer_other p rs xs i c u d a
     (λ g. (let f : true ≡ false = sym (self c) ∙ (ap (λ z. c == z) (sym g) ∙ e) in cc))
 
-take_waits : (s : State) (c i : ℕ) → legal.may_take s c i ≡ true → legal.is_waiting s i ≡ true
+pub take_waits : (s : State) (c i : ℕ) → legal.may_take s c i ≡ true → legal.is_waiting s i ≡ true
 unfolding legal.may_take
 take_waits s c i h = and_second _ _ (and_first _ _ h)
 

@@ -162,7 +162,7 @@ kept_at : {A B : Type 0} (g : Option A → B) (f : A → A) (n : ℕ) (xs : List
 kept_at g f n xs None s e = refl
 kept_at g f n xs (Some x) s e = ap g (changed_at f n xs x (Some x) e refl) ∙ (s x ∙ sym (ap g e))
 
-kept_field : {A B : Type 0} (g : Option A → B) (f : A → A) (n m : ℕ) (xs : List A) →
+pub kept_field : {A B : Type 0} (g : Option A → B) (f : A → A) (n m : ℕ) (xs : List A) →
     ((x : A) → g (Some (f x)) ≡ g (Some x)) →
     g (numbered (changed f n xs) m) ≡ g (numbered xs m)
 kept_field g f n m xs s = elim (decide m n) [
@@ -320,7 +320,7 @@ without_rest x z (y ∷ ys) n h =
 
 -- # Counts
 
-sum_change : {A : Type 0} (g : ℕ → A → ℕ) (f : A → A) (n : ℕ) (xs : List A) (y : A)
+pub sum_change : {A : Type 0} (g : ℕ → A → ℕ) (f : A → A) (n : ℕ) (xs : List A) (y : A)
     (o : Option A) → numbered xs n ≡ o → o ≡ Some y →
     sum_from g 1 (with_change f n xs o) + g n y ≡ sum_from g 1 xs + g n (f y)
 sum_change g f n xs y None e h = absurd (none-some y h)
@@ -387,7 +387,7 @@ service_count w c u i rs z =
     omega (arith, e)
 
 -- the open requests after a waiting one was given a context: that one, and those from before
-given_cases : (w : How) (c u i j m : ℕ) (rs : List RequestState) (r : RequestState) →
+pub given_cases : (w : How) (c u i j m : ℕ) (rs : List RequestState) (r : RequestState) →
     IsWaitingAt rs i → numbered (with_service i w c u rs) j ≡ Some r → r.context ≡ Some m →
     ((j ≡ i) × (m ≡ c) × (r.used ≡ u)) ⊎ (numbered rs j ≡ Some r)
 unfolding with_service
@@ -753,7 +753,7 @@ tied_end sizes s c m t = record {
 
 -- # Requests that are closed
 
-abbrev closing : Standing → Option ℕ → RequestState → RequestState
+abbrev pub closing : Standing → Option ℕ → RequestState → RequestState
 closing t p r = record r { standing = t; place = p }
 
 -- the open requests after an open one was closed were open before
@@ -946,7 +946,7 @@ unfolding with_standing
 answer_closed p rs i j r o e k = changed_other (closing Answered p) i j rs
     (λ q. naming.not_open rs j i r o e k (sym q)) ∙ e
 
-answer_entry : (p : Option ℕ) (rs : List RequestState) (i : ℕ) → (o : IsOpenAt rs i) →
+pub answer_entry : (p : Option ℕ) (rs : List RequestState) (i : ℕ) → (o : IsOpenAt rs i) →
     numbered (with_standing i Answered p rs) i ≡ Some (closing Answered p o.one)
 unfolding with_standing
 answer_entry p rs i o = changed_here (closing Answered p) i rs o.one o.entry
@@ -1147,7 +1147,7 @@ none_at : {A : Type 0} (b : Bool) (n : ℕ) → cond {A = Option A} b None (slic
 none_at true n = refl
 none_at false n = refl
 
-none_drawn : {A : Type 0} (n : ℕ) → numbered {A = A} [] n ≡ None
+pub none_drawn : {A : Type 0} (n : ℕ) → numbered {A = A} [] n ≡ None
 unfolding numbered
 none_drawn n = none_at (n == 0) (n - 1)
 

@@ -14,6 +14,7 @@ pub use layers::{highest_kept_is_one, layers_stand_above_one_place, rising_stack
 pub use lists::{a_full_list_loses_its_last, idle_contexts_are_keyed, layers_are_listed};
 pub use names::{closed_requests_stay, events_leave_what_they_do_not_name};
 pub use states::{
-    contexts_are_few, contexts_serve_in_order, idle_contexts_are_listed, open_requests_are_served,
+    answers_fix_the_line, contexts_are_few, contexts_serve_in_order, earlier_requests_stay,
+    idle_contexts_are_listed, open_requests_are_served,
 };
 pub use weights::sums_change_by_one_item;

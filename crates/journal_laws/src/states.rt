@@ -5,7 +5,7 @@ ghost use Rattle.std.specs.Prelude.{length, true};
 ghost use Rattle.journal_model.specs.Extents.{Extents};
 ghost use Rattle.journal_model.specs.State.{State, numbered, contains};
 ghost use Rattle.journal_model.specs.Legal.{after, after_all, at_first, is_open, given_to};
-ghost use Rattle.journal_model.specs.Legal.{serves, answered_by};
+ghost use Rattle.journal_model.specs.Legal.{serves, answered_by, place_of};
 ghost use Rattle.journal_model.specs.Reads.{served, earlier, service_of, place_at_end, answer_from};
 ghost use Rattle.journal_model.specs.declared.event.Event.{Event};
 ghost use Rattle.journal_model.specs.declared.event.Event.TheVariants.{Answer};
@@ -57,4 +57,27 @@ pub fn contexts_serve_in_order()
     ensures grows { (sizes : Extents) (events : List Event) (s t : State) (e : Event) (c : ℕ) →
         after_all sizes (at_first sizes) events ≡ Some s → after sizes s e ≡ Some t →
         served t c ≡ with_answer c e (served s c) }
+{}
+
+/// What came earlier than a request that was given a context stays, whatever comes later.
+pub fn earlier_requests_stay()
+    ensures { (sizes : Extents) (first later : List Event) (s t : State) (i c : ℕ) →
+        after_all sizes (at_first sizes) first ≡ Some s → after_all sizes s later ≡ Some t →
+        given_to s i ≡ Some c → earlier t i ≡ earlier s i }
+{}
+
+/// An answer of request `i` by context `c`, after `u` others, fixes what the request's line says: that
+/// context and number, where the context stood, and what it served before.
+pub fn answers_fix_the_line()
+    ensures line { (sizes : Extents) (events : List Event) (s t : State) (i c u : ℕ) →
+        after_all sizes (at_first sizes) events ≡ Some s →
+        after sizes s (Answer i c u) ≡ Some t →
+        (service_of t i ≡ service_of s i) × ((service_of t i).context ≡ c)
+        × ((service_of t i).used ≡ u) }
+    ensures place { (sizes : Extents) (events : List Event) (s t : State) (i c u : ℕ) →
+        after_all sizes (at_first sizes) events ≡ Some s →
+        after sizes s (Answer i c u) ≡ Some t → place_at_end t i ≡ place_of s c }
+    ensures earlier { (sizes : Extents) (events : List Event) (s t : State) (i c u : ℕ) →
+        after_all sizes (at_first sizes) events ≡ Some s →
+        after sizes s (Answer i c u) ≡ Some t → earlier t i ≡ served s c }
 {}

@@ -69,7 +69,8 @@ const LEGAL: [Legal; 12] = [
         (3, 1, 0, 2, 64, 3),
         "0/1",
         "start 1 0 0|deploy 1 image 1 1|built 1 0 1|keep 0|answer 1 1 0|end 1|start 2 1 0|\
-         deploy 2 image 2 1|built 2 1 1|keep 1|answer 2 2 0|end 2|start 3 0 0|deploy 3 0 3 1|drop 1",
+         deploy 2 image 2 1|built 2 1 1|keep 1|answer 2 2 0|end 2|start 3 0 0|\
+         deploy 3 0 3 1|drop 1",
         (3, 2, 1, 0, 0, 0),
     ),
     (
@@ -80,7 +81,12 @@ const LEGAL: [Legal; 12] = [
         (2, 2, 0, 0, 0, 62),
     ),
     // Three idle contexts, of which the middle one is taken; and a fourth pushes the first out.
-    ((64, 1, 3, 1, 64, 4), "0/1/2", THREE_IDLE, (4, 3, 0, 1, 0, 61)),
+    (
+        (64, 1, 3, 1, 64, 4),
+        "0/1/2",
+        THREE_IDLE,
+        (4, 3, 0, 1, 0, 61),
+    ),
     (
         (64, 0, 3, 1, 64, 4),
         "0/1/2/3",
@@ -103,7 +109,12 @@ type Broken = (Rooms, &'static str, &'static str, usize);
 
 const BROKEN: [Broken; 16] = [
     // Over copied pages: a deploy takes no frame, none are refilled or come back, none is short.
-    ((64, 0, 1, 1, 64, 2), "0", "start 1 0 0|deploy 1 image 1 1", 1),
+    (
+        (64, 0, 1, 1, 64, 2),
+        "0",
+        "start 1 0 0|deploy 1 image 1 1",
+        1,
+    ),
     (
         (64, 0, 1, 1, 64, 2),
         "0",
@@ -179,7 +190,8 @@ const BROKEN: [Broken; 16] = [
         (3, 1, 0, 2, 64, 3),
         "0/1",
         "start 1 0 0|deploy 1 image 1 1|built 1 0 1|keep 0|answer 1 1 0|end 1|start 2 1 0|\
-         deploy 2 image 2 1|built 2 1 1|keep 1|answer 2 2 0|end 2|start 3 0 0|deploy 3 0 3 1|drop 0",
+         deploy 2 image 2 1|built 2 1 1|keep 1|answer 2 2 0|end 2|start 3 0 0|\
+         deploy 3 0 3 1|drop 0",
         14,
     ),
     // A layer is left out.
@@ -216,7 +228,11 @@ fn edges_are_legal(rt: HostRuntime) -> Result<(), Fail> {
     for (rooms, layers, text, of) in LEGAL {
         let sizes = sizes(alloc, rooms, layers)?;
         let events = events(alloc, text)?;
-        assert_eq!(rt; judge(alloc, &sizes, &events)?, Judged::Legal(totals(of)), "{text}");
+        assert_eq!(rt;
+            judge(alloc, &sizes, &events)?,
+            Judged::Legal(totals(of)),
+            "{text}"
+        );
         assert!(rt; variants_agree(alloc, &sizes, &events)?, "{text}");
     }
     Ok(())
@@ -228,7 +244,11 @@ fn edges_are_broken(rt: HostRuntime) -> Result<(), Fail> {
     for (rooms, layers, text, at) in BROKEN {
         let sizes = sizes(alloc, rooms, layers)?;
         let events = events(alloc, text)?;
-        assert_eq!(rt; judge(alloc, &sizes, &events)?, Judged::Broken { at }, "{text}");
+        assert_eq!(rt;
+            judge(alloc, &sizes, &events)?,
+            Judged::Broken { at },
+            "{text}"
+        );
     }
     Ok(())
 }

@@ -7,7 +7,7 @@ use std::alloc::Global;
 use std::test::Fail;
 
 /// Sizes with clock 0: frames, root, idle, layers, uses, requests.
-type Rooms = (u32, u32, u32, u32, u32, u32);
+pub type Rooms = (u32, u32, u32, u32, u32, u32);
 
 /// Rooms, the stacks of functions with a digit a layer and a slash between, and events with a bar
 /// between.
@@ -18,7 +18,8 @@ const WHOLE: [Row; 9] = [
     (
         (64, 1, 1, 1, 64, 1),
         "0",
-        "start 1 0 0|deploy 1 image 1 1|refill 1 0 16|built 1 0 1|keep 0|answer 1 1 0|end 1|back 13",
+        "start 1 0 0|deploy 1 image 1 1|refill 1 0 16|built 1 0 1|keep 0|answer 1 1 0|end 1|\
+         back 13",
     ),
     (
         (64, 1, 1, 1, 64, 3),
@@ -73,7 +74,8 @@ const WHOLE: [Row; 9] = [
     ),
 ];
 
-fn events(alloc: Global, text: &str) -> Result<Vec<Event>, Fail> {
+/// The events of lines with a bar between.
+pub fn events(alloc: Global, text: &str) -> Result<Vec<Event>, Fail> {
     let mut events = Vec::new(alloc);
     for line in text.split('|') {
         let event = read_event(line.as_bytes()).ok_or("a line of the table")?;
@@ -94,7 +96,8 @@ fn stacks(alloc: Global, text: &str) -> Result<Vec<FunctionStack>, Fail> {
     Ok(stacks)
 }
 
-fn sizes(alloc: Global, rooms: Rooms, text: &str) -> Result<Sizes, Fail> {
+/// Sizes of these rooms and stacks.
+pub fn sizes(alloc: Global, rooms: Rooms, text: &str) -> Result<Sizes, Fail> {
     Ok(Sizes {
         frames: rooms.0,
         root: rooms.1,
@@ -156,7 +159,8 @@ fn agree(alloc: Global, sizes: &Sizes, events: &[Event]) -> Result<bool, Fail> {
     Ok(judge(alloc, sizes, events)? == slowly_judged(alloc, sizes, events)?)
 }
 
-fn variants_agree(alloc: Global, sizes: &Sizes, events: &[Event]) -> Result<bool, Fail> {
+/// Whether both judges say the same of the events, and of each change of one of them.
+pub fn variants_agree(alloc: Global, sizes: &Sizes, events: &[Event]) -> Result<bool, Fail> {
     for place in 0..events.len() {
         if !agree(alloc, sizes, &left_out(alloc, events, place)?)?
             || !agree(alloc, sizes, &doubled(alloc, events, place)?)?
