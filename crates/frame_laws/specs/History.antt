@@ -1,17 +1,17 @@
 -- Steps of holders on a table of frames, one after the other: of eight kinds, each as its call
 -- asks, and with what its call ensures.
 use Rattle.std.specs.Prelude.{◌≡◌, ℕ, ◌+◌, ◌*◌, ◌-◌, ◌%◌, ◌^◌, ◌<◌, ◌≤◌, List, [], ◌∷◌, ◌++◌}
-use Rattle.std.specs.Prelude.{length, slice_index, slice_set}
+use Rattle.std.specs.Prelude.{length, replicate, slice_index, slice_set}
 use mathlib.Core.Option.{some}
 use lib.ListN.{get_elem?}
-use Rattle.atomic_table.specs.Table.{State}
+use Rattle.atomic_table.specs.Table.{State, opening}
 use Rattle.frame_model.specs.declared.holding.Holding.{Holding}
 use Rattle.frame_model.specs.declared.kind.Kind.{Kind}
 use Rattle.frame_model.specs.declared.kind.Kind.TheVariants.{Data}
 use Rattle.frame_model.specs.declared.view.View.{View}
 use Rattle.frame_model.specs.Holdings.{held, with_view}
 use Rattle.frame_model.specs.Words.{frames_in, meta_place, word_place, kind_number, kind_at}
-use Rattle.frame_model.specs.Views.{Has, kind_of, reach, IsLoose, most_references}
+use Rattle.frame_model.specs.Views.{Has, kind_of, reach, first_view, IsLoose, most_references}
 use Rattle.frame_words.specs.declared.part.Part.{Part}
 use Rattle.frame_words.specs.Steps.{put, dressed, IsClear, stake_of, kept_of, given_of, IsThere}
 use Rattle.frame_words.specs.Steps.{joined, spent}
@@ -20,6 +20,10 @@ use Rattle.frame_steps.specs.Counted.{entered, MayStand, HasRoom, gained, lost, 
 -- the words of a table, and what each holder has
 abbrev pub Table : Type 0
 Table = State (Unit {0}) Holding
+
+-- a new table of n frames: its words are 0, and its one holder owns all
+abbrev pub new_table : ℕ → Table
+new_table n = opening (replicate (n * 513) 0) [] (held (first_view n))
 
 -- the holder of this number has h
 abbrev pub Holds : Table → ℕ → Holding → Type 0

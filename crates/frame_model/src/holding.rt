@@ -6,7 +6,7 @@ use crate::view::View;
 /// What is counted of a holder beside its frames. Nothing yet.
 pub struct Tally;
 
-/// All that the rule says of one holder.
+/// What the seat of one holder stands for.
 pub struct Holding {
     /// What it has and knows of the frames.
     pub view: View,
