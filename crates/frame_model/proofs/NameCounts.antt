@@ -1,7 +1,9 @@
 -- How often a view itself names a frame: that is a lower bound of its count, and of an owned frame
 -- the count.
-use Rattle.std.proofs.Common.{◌≡◌, ℕ, zero, suc, ◌+◌, ◌<◌, ◌≤◌, ◌≢◌, Bool, true, false, not, ◌&&◌, eqb}
-use Rattle.std.proofs.Common.{if◌then◌else◌, List, [], ◌∷◌, length, get_or, refl, sym, ap, subst, ◌∙◌}
+use Rattle.std.proofs.Common.{◌≡◌, ℕ, zero, suc, ◌+◌, ◌<◌, ◌≤◌, ◌≢◌, Bool, true, false, not, ◌&&◌}
+use Rattle.std.proofs.Common.{eqb}
+use Rattle.std.proofs.Common.{if◌then◌else◌, List, [], ◌∷◌, length, get_or, refl, sym, ap, subst}
+use Rattle.std.proofs.Common.{◌∙◌}
 use Rattle.std.proofs.Common.{inl, inr, ⊎_elim, arith, length-append}
 use Rattle.std.proofs.lemmas.Bool.{cases_eq, and_right, eq-eqb, ne_eqb, cond-true, cond-false}
 use Rattle.frame_model.specs.declared.kind.Kind.{Kind}
@@ -10,7 +12,8 @@ use Rattle.frame_model.specs.declared.view.View.{View}
 use Rattle.frame_model.specs.Words.{Frames, kind_number, kind_at, count_at, names, target, links_in}
 use Rattle.frame_model.specs.Words.{links_below}
 use Rattle.frame_model.specs.Views.{Has, one_if, times, less_one, known_of, kind_of, words_of}
-use Rattle.frame_model.specs.Views.{targets, targets_by_kind, targets_of, children, reach, name_count}
+use Rattle.frame_model.specs.Views.{targets, targets_by_kind, targets_of, children, reach}
+use Rattle.frame_model.specs.Views.{name_count}
 use Rattle.frame_model.specs.Rule.{At, IsNamedByOwn, FrameRule}
 use Rattle.frame_model.proofs.Counts.{names_zero, names_true, total_at}
 use Rattle.frame_model.proofs.Owners.{owned_reached, named_child}
@@ -26,10 +29,13 @@ pub targets_one : (w : ℕ) → w ≢ 0 → targets (w ∷ []) ≡ target w ∷ 
 targets_one w ne = cond-false (eqb w 0) [] (target w ∷ []) (ne_eqb w 0 ne)
 
 names_not : (m : Frames) (h g i : ℕ) → target (m.word g i) ≢ h → names m h g i ≡ false
-names_not m h g i ne = and_right (not (eqb (kind_at m g) 0) && not (eqb (m.word g i) 0)) (eqb (target (m.word g i)) h) (ne_eqb (target (m.word g i)) h ne)
+names_not m h g i ne =
+    and_right (not (eqb (kind_at m g) 0) && not (eqb (m.word g i) 0))
+    (eqb (target (m.word g i)) h) (ne_eqb (target (m.word g i)) h ne)
 
 -- a word of a table is one link or none of each frame
-pub link_times : (m : Frames) (h g i w : ℕ) → m.word g i ≡ w → 0 < kind_at m g → one_if (names m h g i) ≡ times h (targets (w ∷ []))
+pub link_times : (m : Frames) (h g i w : ℕ) → m.word g i ≡ w → 0 < kind_at m g
+    → one_if (names m h g i) ≡ times h (targets (w ∷ []))
 link_times m h g i w is table = ⊎_elim
     (λ (z : w ≡ 0).
     let a : one_if (names m h g i) ≡ 0 = ap one_if (names_zero m h g i (is ∙ z)) in
@@ -39,11 +45,13 @@ link_times m h g i w is table = ⊎_elim
     let b = ap (λ (xs : List ℕ). times h xs) (targets_one w ne) in
     ⊎_elim
     (λ (e : h ≡ target w).
-    let a : one_if (names m h g i) ≡ 1 = ap one_if (names_true m h g i table (λ z. ne (sym is ∙ z)) (ap target is ∙ sym e)) in
+    let a : one_if (names m h g i) ≡ 1 =
+    ap one_if (names_true m h g i table (λ z. ne (sym is ∙ z)) (ap target is ∙ sym e)) in
     let c = times_here h (target w) [] e in
     omega arith)
     (λ (away : h ≡ target w → ⊥).
-    let a : one_if (names m h g i) ≡ 0 = ap one_if (names_not m h g i (λ e. away (sym e ∙ ap target is))) in
+    let a : one_if (names m h g i) ≡ 0 =
+    ap one_if (names_not m h g i (λ e. away (sym e ∙ ap target is))) in
     let c = times_else h (target w) [] away in
     omega arith)
     (cases_eq h (target w)))
@@ -106,7 +114,8 @@ word_sum f (w ∷ ws) =
     let s = sum_front (λ i. times f (targets (get_or (w ∷ ws) i 0 ∷ []))) (length ws) in
     omega arith
 
-by_kind_times : (k : Kind) (ws : List ℕ) (f : ℕ) → times f (targets_by_kind k ws) ≤ times f (targets ws)
+by_kind_times : (k : Kind) (ws : List ℕ) (f : ℕ)
+    → times f (targets_by_kind k ws) ≤ times f (targets ws)
 by_kind_times Data ws f = omega arith
 by_kind_times Leaf ws f = omega arith
 by_kind_times Mid ws f = omega arith
@@ -227,7 +236,8 @@ module _ (n : ℕ) (m : Frames) (views : List View) (rule : FrameRule n m views)
 
   own_links : (f : ℕ) → times f (children v.known v.owned) ≤ length (links_below m f n)
   own_links f =
-      let reached : (g : ℕ) → Has g v.owned → Has g (reach v) = λ g h. owned_reached n m views rule v g h in
+      let reached : (g : ℕ) → Has g v.owned → Has g (reach v) =
+      λ g h. owned_reached n m views rule v g h in
       let a = own_rows f v.owned reached in
       let b = rows_most (λ g. length (links_in m f g 512)) n v.owned
       (λ g h. (rule.agrees id v at).inside g (reached g h)) (rule.owned.once id v at) in

@@ -1,5 +1,6 @@
 -- What a call owes to the table: that its word is there, and that its step is allowed.
-use Rattle.std.proofs.Common.{◌≡◌, ℕ, ◌*◌, ◌<◌, ◌≤◌, List, [], ◌∷◌, length, replicate, refl, sym, ap, subst, ◌∙◌, arith}
+use Rattle.std.proofs.Common.{◌≡◌, ℕ, ◌*◌, ◌<◌, ◌≤◌, List, [], ◌∷◌, length, replicate, refl, sym}
+use Rattle.std.proofs.Common.{ap, subst, ◌∙◌, arith}
 use Rattle.std.proofs.lemmas.List.{length-replicate}
 use mathlib.Core.Option.{none}
 use Rattle.atomic_table.specs.Table.{step, Allows, opening}
@@ -14,10 +15,12 @@ use Rattle.frame_model.proofs.Opening.{opening_rule}
 use Rattle.frame_model.proofs.Reach.{within_front, has_left}
 use Rattle.frame_model.proofs.Rules.{sound}
 use Rattle.frame_words.specs.Steps.{IsClear}
-use Rattle.frame_words.specs.Plays.{Kept, Mine, Looked, LookedAgain, LookedWhole, LookedAtMeta, DidPut, DidDress}
+use Rattle.frame_words.specs.Plays.{Kept, Mine, Looked, LookedAgain, LookedWhole, LookedAtMeta}
+use Rattle.frame_words.specs.Plays.{DidPut, DidDress}
 use Rattle.frame_words.proofs.Keeps as rule
 
-pub opens : (n : ℕ) (ws : List ℕ) → ws ≡ replicate (n * 513) 0 → n ≤ most_frames → Kept n (opening {S = Unit {0}} ws [] (held (first_view n)))
+pub opens : (n : ℕ) (ws : List ℕ) → ws ≡ replicate (n * 513) 0 → n ≤ most_frames
+    → Kept n (opening {S = Unit {0}} ws [] (held (first_view n)))
 opens n ws is most = record {
   size = ap length is ∙ length-replicate {A = ℕ} (n * 513) 0;
   rule = subst (λ (xs : List ℕ). FrameRule n (frames_in xs) (first_view n ∷ [])) (sym is) (opening_rule n most);

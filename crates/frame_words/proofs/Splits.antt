@@ -1,15 +1,22 @@
 -- What a split may name is a parting of the holder's view.
-use Rattle.std.proofs.Common.{◌≡◌, ℕ, ◌+◌, ◌-◌, ◌<◌, ◌≤◌, ◌≢◌, ◌⊎◌, true, List, [], ◌∷◌, ◌++◌, length, refl, sym, ap, subst, inl, inr, ⊎_elim, arith}
+use Rattle.std.proofs.Common.{◌≡◌, ℕ, ◌+◌, ◌-◌, ◌<◌, ◌≤◌, ◌≢◌, ◌⊎◌, true, List, [], ◌∷◌, ◌++◌}
+use Rattle.std.proofs.Common.{length, refl, sym, ap, subst, inl, inr, ⊎_elim, arith}
 use Rattle.std.proofs.lemmas.Bool.{cases_eq}
 use Rattle.frame_model.specs.Words.{depth}
 use Rattle.frame_model.specs.declared.kind.Kind.TheVariants.{Data}
 use Rattle.frame_model.specs.declared.view.View.{View}
 use Rattle.frame_model.specs.Words.{Frames, kind_number, count_at, names}
-use Rattle.frame_model.specs.Views.{Has, times, known_of, kind_of, words_of, targets_of, Names, reach, part_of, among, without, less_one, IsStaked, IsSound, IsLoose}
+use Rattle.frame_model.specs.Views.{Has, times, known_of, kind_of, words_of, targets_of, Names}
+use Rattle.frame_model.specs.Views.{reach, part_of, among, without, less_one, IsStaked, IsSound}
+use Rattle.frame_model.specs.Views.{IsLoose}
 use Rattle.frame_model.specs.Rule.{At, IsNamedByOwn, FrameRule}
-use Rattle.frame_model.proofs.Reach.{has_left, has_right, has_append, has_by_kind, children_has, within_front, within_inside, within_parent, within_closed, kind_number_most, dec_has, has_targets}
-use Rattle.frame_model.proofs.Parts.{has_among, has_without, among_has, without_has, times_parts, length_parts, has_less, less_has, times_less, length_less}
-use Rattle.frame_model.proofs.Owners.{named, owned_reached, loose_count, child_link, link_child, no_link, one_holder, one_table}
+use Rattle.frame_model.proofs.Reach.{has_left, has_right, has_append, has_by_kind, children_has}
+use Rattle.frame_model.proofs.Reach.{within_front, within_inside, within_parent, within_closed}
+use Rattle.frame_model.proofs.Reach.{kind_number_most, dec_has, has_targets}
+use Rattle.frame_model.proofs.Parts.{has_among, has_without, among_has, without_has, times_parts}
+use Rattle.frame_model.proofs.Parts.{length_parts, has_less, less_has, times_less, length_less}
+use Rattle.frame_model.proofs.Owners.{named, owned_reached, loose_count, child_link, link_child}
+use Rattle.frame_model.proofs.Owners.{no_link, one_holder, one_table}
 use Rattle.frame_model.proofs.Rules.{sound, sound_closed}
 use Rattle.frame_words.specs.Steps.{pile_of, tree_of}
 use Rattle.frame_words.proofs.Partings.{IsPart, IsParting}

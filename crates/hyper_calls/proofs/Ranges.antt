@@ -1,5 +1,6 @@
 -- Accesses of ranges: one is done only where it may be, and is refused only where it may not.
-use Rattle.std.proofs.Common.{◌≡◌, ℕ, Bool, true, false, Option, Some, None, Result, Ok, Err, MatchOption, ◌⊎◌, inl, inr}
+use Rattle.std.proofs.Common.{◌≡◌, ℕ, Bool, true, false, Option, Some, None, Result, Ok, Err}
+use Rattle.std.proofs.Common.{MatchOption, ◌⊎◌, inl, inr}
 use Rattle.std.proofs.lemmas.Result.{IfErr-at_err}
 use Rattle.machine_model.specs.Machine.{range_passes, least_failing}
 use Rattle.machine_model.proofs.Ranges.{least_failing-passes}
@@ -54,7 +55,8 @@ read_refused test at n cause r code addr e ends =
     (least_failing-passes test at n) e ends
 
 pub write_done : {T : Type 0} (lacks : Bool) (test : ℕ → Bool) (at n cause : ℕ)
-    (r : Result T Access) (v : T) → r ≡ Ok v → EndsWrite lacks cause (least_failing test at n) r → range_passes test at n ≡ true
+    (r : Result T Access) (v : T) → r ≡ Ok v → EndsWrite lacks cause (least_failing test at n) r
+    → range_passes test at n ≡ true
 write_done lacks test at n cause r v e ends =
     write_done_by lacks (range_passes test at n) cause r v (least_failing test at n)
     (least_failing-passes test at n) e ends

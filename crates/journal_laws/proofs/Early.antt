@@ -357,7 +357,8 @@ answering : (sizes : Extents) (s t : State) (i c u : ℕ) →
     (legal.may_answer s i c u ≡ true) × (legal.after_answer sizes s i c u ≡ t)
 answering sizes s t i c u h = stood _ _ t h
 
-entry_after : (sizes : Extents) (s : State) (i c u : ℕ) → (a : IsAnswer s.requests s.contexts i c u) →
+entry_after : (sizes : Extents) (s : State) (i c u : ℕ)
+    → (a : IsAnswer s.requests s.contexts i c u) →
     numbered (legal.after_answer sizes s i c u).requests i
     ≡ Some (closing Answered (legal.place_of s c) a.open_one.one)
 unfolding legal.after_answer

@@ -8,4 +8,5 @@ pub returns-clause-others : goal.returns-clause-others
 returns-clause-others c = turn_others
 
 pub returns-clause-holders : goal.returns-clause-holders
-returns-clause-holders c = λ s t id h at ne away. step_holders s t.id t.holding t.step id h at ne away
+returns-clause-holders c = λ s t id h at ne away.
+    step_holders s t.id t.holding t.step id h at ne away

@@ -1,5 +1,6 @@
 use Rattle.frame_views.proofs.NewPages.{dressed_loose}
-use Rattle.frame_views.proofs.NewPages.{dressed_kind_here, dressed_kind_else, dressed_words, dressed_reach}
+use Rattle.frame_views.proofs.NewPages.{dressed_kind_here, dressed_kind_else, dressed_words}
+use Rattle.frame_views.proofs.NewPages.{dressed_reach}
 use Rattle.frame_views.proofs.pages.dresses_change_one_kind.Goals as goal
 
 pub returns-clause-here : goal.returns-clause-here

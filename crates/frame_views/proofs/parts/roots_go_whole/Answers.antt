@@ -1,4 +1,5 @@
-use Rattle.frame_views.proofs.NewParts.{own_root_kept, own_root_given, other_root_kept, other_root_given}
+use Rattle.frame_views.proofs.NewParts.{own_root_kept, own_root_given, other_root_kept}
+use Rattle.frame_views.proofs.NewParts.{other_root_given}
 use Rattle.frame_views.proofs.parts.roots_go_whole.Goals as goal
 
 pub returns-clause-kept : goal.returns-clause-kept

@@ -13,7 +13,9 @@ join_seat-requires c =
       c.requires.other_of,
       o.bare,
       has_word t.frames _ t.some t.sized,
-      joins _ _ _ h.seat.me.0 o.seat.me.0 (same_frames _ _ (sym h.sized ∙ ap (λ z. z.words) c.requires.of ∙ t.sized) ∙ sym t.keyed) c.requires.few,
+      joins _ _ _ h.seat.me.0 o.seat.me.0
+          (same_frames _ _ (sym h.sized ∙ ap (λ z. z.words) c.requires.of ∙ t.sized) ∙ sym t.keyed)
+          c.requires.few,
     )
 
 pub load-requires : goal.load-requires
@@ -28,7 +30,9 @@ invariant_of-h c =
     let e = c.load.ensures in
     record {
       sound = e.2.sound;
-      sized = ap (λ z. z.words) (e.0 ∙ j.0) ∙ h.sized ∙ sym (ap (λ (k : ℕ). k * 513) (ap (λ (m : Mine). m.0.view.frames) (e.2.same ∙ j.2) ∙ joined_frames h.seat.me.0.view c.args.other.seat.me.0.view));
+      sized = ap (λ z. z.words) (e.0 ∙ j.0) ∙ h.sized
+          ∙ sym (ap (λ (k : ℕ). k * 513) (ap (λ (m : Mine). m.0.view.frames) (e.2.same ∙ j.2)
+          ∙ joined_frames h.seat.me.0.view c.args.other.seat.me.0.view));
       bare = ap (λ (m : Mine). m.1) (e.2.same ∙ j.2) ∙ h.bare;
     }
 

@@ -10,7 +10,8 @@ returns-in-Ok-clause-ends g c =
     let flat = g.S.Space.flat c.args.space.now in
     let passes : range_passes (is_writable flat) c.args.at (length c.next-packet.result.now)
     ≡ true =
-    write_done g.S.Space.lacks_memory (is_writable flat) _ _ _ _ _ c.in-Ok.is c.write_from.ensures.ends in
+    write_done g.S.Space.lacks_memory (is_writable flat) _ _ _ _ _ c.in-Ok.is
+    c.write_from.ensures.ends in
     search rules
 
 pub returns-in-Err-Fault-clause-ends : goal.returns-in-Err-Fault-clause-ends

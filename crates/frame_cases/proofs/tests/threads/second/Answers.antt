@@ -4,7 +4,8 @@ use Rattle.frame_words.specs.declared.part.Part.TheVariants.{Root as RootPart}
 use Rattle.frame_words.specs.Steps.{kept_of, given_of, IsThere}
 use Rattle.frame_cases.specs.Mids.{IsShared, HasReferences}
 use Rattle.frame_views.proofs.Giving.{referred_reached}
-use Rattle.frame_cases.proofs.Visits.{part_shared, shared_gained, root_part_there, root_kept, root_given}
+use Rattle.frame_cases.proofs.Visits.{part_shared, shared_gained, root_part_there, root_kept}
+use Rattle.frame_cases.proofs.Visits.{root_given}
 use Rattle.frame_cases.proofs.tests.threads.second.Goals as goal
 
 pub gain-requires-clause-reached : goal.gain-requires-clause-reached
