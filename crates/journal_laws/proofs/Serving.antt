@@ -196,7 +196,8 @@ grows_in sizes s (Start i f z) t c q k h = let r = stood _ _ t h in
 grows_in sizes s (Take d i) t c q k h = let r = stood _ _ t h in
     let P : State → Type 0 = λ x. Grows s x (Take d i) c in subst P r.1
     (still_served c s.requests _ s.contexts _ (service_still how.Hot d (legal.answered_by s d) i
-    s.requests (waiting_is s i (take_waits s d i r.0)).open_at) (duty_uses d (Serves i) s.contexts c))
+    s.requests (waiting_is s i (take_waits s d i r.0)).open_at)
+    (duty_uses d (Serves i) s.contexts c))
 grows_in sizes s (Deploy d l i n) t c q k h = let r = stood _ _ t h in
     let P : State → Type 0 = λ x. Grows s x (Deploy d l i n) c in subst P r.1
     (still_served c s.requests _ s.contexts _ (service_still _ d 0 i s.requests

@@ -14,8 +14,8 @@ used_in xs c = answered_by_one (numbered xs c)
 abbrev pub layer_in : List ContextState → (c : ℕ) → Option ℕ
 layer_in xs c = place_of_one (numbered xs c)
 
--- context c answered at least one of these requests and fewer than it may, and stands where it stood
--- when it answered the last of them
+-- context c answered at least one of these requests and fewer than it may, and stands where it
+-- stood when it answered the last of them
 pub record IsRested (uses : ℕ) (rs : List RequestState) (xs : List ContextState) (c : ℕ)
     : Type 0 where
   pub before : ℕ

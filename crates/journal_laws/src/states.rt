@@ -66,8 +66,8 @@ pub fn earlier_requests_stay()
         given_to s i ≡ Some c → earlier t i ≡ earlier s i }
 {}
 
-/// An answer of request `i` by context `c`, after `u` others, fixes what the request's line says: that
-/// context and number, where the context stood, and what it served before.
+/// An answer of request `i` by context `c`, after `u` others, fixes what the request's line says:
+/// that context and number, where the context stood, and what it served before.
 pub fn answers_fix_the_line()
     ensures line { (sizes : Extents) (events : List Event) (s t : State) (i c u : ℕ) →
         after_all sizes (at_first sizes) events ≡ Some s →

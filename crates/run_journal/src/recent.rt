@@ -96,8 +96,8 @@ impl Recent {
         Ok(())
     }
 
-    /// Puts a number first, and takes out where it stood before, if it did. Where memory ran out, all
-    /// is as before.
+    /// Puts a number first, and takes out where it stood before, if it did. Where memory ran out,
+    /// all is as before.
     #[tactic(auto, using(crate::proofs::Lists::without_is, crate::proofs::Lists::without_absent))]
     pub fn bring_to_front(&mut self, number: u32) -> Result<(), Memory>
         ensures ok { OnOk result (self.new ≡ number ∷ model.without number self.old) }
