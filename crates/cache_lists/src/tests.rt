@@ -17,6 +17,7 @@ fn idle_contexts_in_their_order(rt: HostRuntime) -> Result<(), Fail> {
     );
     assert_eq!(rt; list.park(9, 2, 90)?, Some((7, 70)));
     assert_eq!(rt; (list.remove(7), list.remove(8)), (None, Some(80)));
+    list.is_sound();
     assert_eq!(rt; (list.find(1), list.find(2)), (None, Some(9)));
     Ok(())
 }
@@ -33,6 +34,7 @@ fn layers_in_their_order(rt: HostRuntime) -> Result<(), Fail> {
     );
     assert_eq!(rt; (list.find(5), list.last()), (Some(50), Some(5)));
     assert_eq!(rt; list.keep(6, 60)?, Some((5, 50)));
+    list.is_sound();
     assert_eq!(rt; (list.remove(5), list.remove(4)), (None, Some(40)));
     assert_eq!(rt; list.is_full(), false);
     Ok(())

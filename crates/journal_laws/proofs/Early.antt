@@ -4,7 +4,7 @@ use Rattle.std.proofs.Common.{Option, None, Some, refl, sym, ◌∙◌, ap, arit
 use Rattle.std.specs.Prelude.{option_map}
 use Rattle.std.proofs.lemmas.Option.{none-some, same_Some}
 use Rattle.journal_model.specs.Extents.{Extents}
-use Rattle.journal_model.specs.State.{State, numbered, stack_of}
+use Rattle.journal_model.specs.State.{State, numbered}
 use Rattle.journal_model.specs.Legal as legal
 use Rattle.journal_model.specs.Legal.{after, after_all, at_first, with_standing}
 use Rattle.journal_model.specs.Reads.{answer_from, answers_below, served, earlier, earlier_one}
@@ -20,7 +20,6 @@ use Rattle.journal_model.specs.declared.answer.How.TheVariants as how
 use Rattle.journal_model.specs.declared.state.Standing.{Standing}
 use Rattle.journal_model.specs.declared.state.Standing.TheVariants.{Answered, Refused, Wanted}
 use Rattle.journal_model.specs.declared.state.RequestState.{RequestState}
-use Rattle.journal_model.specs.declared.state.ContextState.{ContextState}
 use Rattle.journal_model.specs.declared.state.Duty.TheVariants.{Idle, Serves, Over}
 use Rattle.journal_model.proofs.Frames.{stood}
 use Rattle.journal_model.proofs.Folds.{go_on, all_more, none_first}
@@ -30,19 +29,19 @@ use Rattle.journal_laws.specs.Rests.{used_in}
 use Rattle.journal_laws.proofs.Folding.{joined_one}
 use Rattle.journal_laws.proofs.Naming as naming
 use Rattle.journal_laws.proofs.Naming.{open_is, next_request}
-use Rattle.journal_laws.proofs.Numbers.{pushed_other, pushed_here, next_none, changed_here}
+use Rattle.journal_laws.proofs.Numbers.{pushed_other, pushed_here, next_none}
 use Rattle.journal_laws.proofs.Ties.{given_cases, none_drawn}
 use Rattle.journal_model.specs.Reads.{earlier_given, number_or_zero}
 use Rattle.std.proofs.Common.{true}
 use Rattle.journal_laws.proofs.Ties.{answer_entry, closing}
 use Rattle.journal_laws.proofs.Serving.{earlier_so}
 use Rattle.std.proofs.Common.{◌⊎◌}
-use Rattle.journal_laws.proofs.Answering.{IsStill, still_same, still_push, below_same}
+use Rattle.journal_laws.proofs.Answering.{still_push, below_same}
 use Rattle.journal_laws.proofs.Ties.{Tied, reached_tied, waiting_is, service_still, IsWaitingAt}
 use Rattle.journal_laws.proofs.Ties.{duty_uses, push_uses, layer_uses, standing_still, answer_is}
 use Rattle.journal_laws.proofs.Ties.{other_answer, used_here, used_other, deploy_quiet}
 use Rattle.journal_laws.proofs.Ties.{refuse_parts, want_parts, IsAnswer, kept_field}
-use Rattle.journal_laws.proofs.Serving.{take_waits, served_is, served_in}
+use Rattle.journal_laws.proofs.Serving.{take_waits}
 
 -- the context that a request was given, and how often that was used
 abbrev claim : Option RequestState → Option (Option ℕ × ℕ)
@@ -357,8 +356,8 @@ answering : (sizes : Extents) (s t : State) (i c u : ℕ) →
     (legal.may_answer s i c u ≡ true) × (legal.after_answer sizes s i c u ≡ t)
 answering sizes s t i c u h = stood _ _ t h
 
-entry_after : (sizes : Extents) (s : State) (i c u : ℕ)
-    → (a : IsAnswer s.requests s.contexts i c u) →
+entry_after : (sizes : Extents) (s : State) (i c u : ℕ) →
+    (a : IsAnswer s.requests s.contexts i c u) →
     numbered (legal.after_answer sizes s i c u).requests i
     ≡ Some (closing Answered (legal.place_of s c) a.open_one.one)
 unfolding legal.after_answer

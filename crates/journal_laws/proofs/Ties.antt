@@ -238,8 +238,8 @@ unfolding with_used
 used_here c u e xs h = let p = drawn xs c e h in ap legal.answered_by_one
     (changed_here (λ (x : ContextState). record x { used = u }) c xs p.0 p.1)
 
-pub push_uses : (xs : List ContextState) (x : ContextState) → x.used ≡ 0
-    → SameUses xs (xs ++ x ∷ [])
+pub push_uses : (xs : List ContextState) (x : ContextState) → x.used ≡ 0 →
+    SameUses xs (xs ++ x ∷ [])
 push_uses xs x z m = elim (decide m (length xs + 1)) [
   | inl e ↦ (let P : ℕ → Type 0 = λ n. used_in (xs ++ x ∷ []) n ≡ used_in xs n in
       subst P (sym e) (ap legal.answered_by_one (pushed_here xs x)

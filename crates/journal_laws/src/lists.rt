@@ -16,8 +16,7 @@ ghost use Rattle.journal_model.specs.declared.state.ContextState.{ContextState};
 ghost use Rattle.journal_laws.specs.Lists.{AreFor};
 
 /// What a call does to the kept layers and their slots, it does to the list of their numbers: one
-/// is taken out, brought to the front, put to the front, looked up, or asked whether it is the
-/// last.
+/// is taken out, brought to the front, put there, looked up, or is the last.
 pub fn layers_are_listed()
     ensures removed { (k : ℕ) (es : List (ℕ × ℕ)) →
         keys_of (remove_entry (nat_eq k) es) ≡ without k (keys_of es) }

@@ -9,28 +9,48 @@ use journal_model::Owed;
 pub fn owes_nothing(owed: Owed) -> bool
     ensures { result ≡ legal.owes_nothing owed }
 {
-    matches!(owed, Owed::Nothing)
+    match owed {
+        Owed::Nothing => true,
+        Owed::Dup { .. } | Owed::Keep { .. } | Owed::DropThenKeep { .. } => false,
+        Owed::End { .. } | Owed::EndOrPark { .. } => false,
+        Owed::EndOrEvict { .. } | Owed::Park { .. } => false,
+    }
 }
 
 /// Whether `dup` of the layer is owed.
 pub fn owes_dup(owed: Owed, k: u16) -> bool
     ensures { result ≡ legal.owes_dup owed k }
 {
-    matches!(owed, Owed::Dup { k: owed } if owed == k)
+    match owed {
+        Owed::Dup { k: owed } => owed == k,
+        Owed::Nothing | Owed::Keep { .. } | Owed::DropThenKeep { .. } => false,
+        Owed::End { .. } | Owed::EndOrPark { .. } => false,
+        Owed::EndOrEvict { .. } | Owed::Park { .. } => false,
+    }
 }
 
 /// Whether `keep` of the layer is owed.
 pub fn owes_keep(owed: Owed, k: u16) -> bool
     ensures { result ≡ legal.owes_keep owed k }
 {
-    matches!(owed, Owed::Keep { k: owed } if owed == k)
+    match owed {
+        Owed::Keep { k: owed } => owed == k,
+        Owed::Nothing | Owed::Dup { .. } | Owed::DropThenKeep { .. } => false,
+        Owed::End { .. } | Owed::EndOrPark { .. } => false,
+        Owed::EndOrEvict { .. } | Owed::Park { .. } => false,
+    }
 }
 
 /// Whether a `drop` is owed.
 pub fn owes_drop(owed: Owed) -> bool
     ensures { result ≡ legal.owes_drop owed }
 {
-    matches!(owed, Owed::DropThenKeep { .. })
+    match owed {
+        Owed::DropThenKeep { .. } => true,
+        Owed::Nothing | Owed::Dup { .. } | Owed::Keep { .. } => false,
+        Owed::End { .. } | Owed::EndOrPark { .. } => false,
+        Owed::EndOrEvict { .. } | Owed::Park { .. } => false,
+    }
 }
 
 /// Whether `end` of the context may come, where something is owed.
@@ -50,7 +70,12 @@ pub fn owes_end(owed: Owed, c: u32) -> bool
 pub fn owes_evict(owed: Owed) -> bool
     ensures { result ≡ legal.owes_evict owed }
 {
-    matches!(owed, Owed::EndOrEvict { .. })
+    match owed {
+        Owed::EndOrEvict { .. } => true,
+        Owed::Nothing | Owed::Dup { .. } | Owed::Keep { .. } => false,
+        Owed::End { .. } | Owed::EndOrPark { .. } => false,
+        Owed::DropThenKeep { .. } | Owed::Park { .. } => false,
+    }
 }
 
 /// Whether `park` of the context may come.

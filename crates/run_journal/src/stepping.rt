@@ -12,25 +12,37 @@ use machine_model::Memory;
 fn is_cold(how: How) -> bool
     ensures { result ≡ legal.is_cold how }
 {
-    matches!(how, How::Cold)
+    match how {
+        How::Cold => true,
+        How::Warm | How::Hot | How::None => false,
+    }
 }
 
 fn is_warm(how: How) -> bool
     ensures { result ≡ legal.is_warm how }
 {
-    matches!(how, How::Warm)
+    match how {
+        How::Warm => true,
+        How::Cold | How::Hot | How::None => false,
+    }
 }
 
 fn is_hot(how: How) -> bool
     ensures { result ≡ legal.is_hot how }
 {
-    matches!(how, How::Hot)
+    match how {
+        How::Hot => true,
+        How::Cold | How::Warm | How::None => false,
+    }
 }
 
 fn is_without(how: How) -> bool
     ensures { result ≡ legal.is_without how }
 {
-    matches!(how, How::None)
+    match how {
+        How::None => true,
+        How::Cold | How::Warm | How::Hot => false,
+    }
 }
 
 /// How many requests had a cold start.
