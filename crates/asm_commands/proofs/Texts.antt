@@ -7,18 +7,21 @@ use Rattle.std.specs.Str.Lossy.{utf8_valid_len}
 use Rattle.asm_commands.specs.Asm.{Assembles, TextAssembles, line_feeds}
 use Rattle.asm_commands.specs.Conversion.{CouldNot}
 use Rattle.asm_lines.specs.declared.fault.AsmKind.TheVariants.{BadShape}
+use Rattle.asm_commands.specs.Causes.{AsmRefusal}
+use Rattle.asm_commands.specs.declared.cause.AsmCause.{AsmCause}
+use Rattle.asm_commands.specs.declared.cause.AsmCause.TheVariants.{Line}
 use Rattle.command_parts.specs.declared.refusal.Refusal.{Refusal}
-use Rattle.command_parts.specs.declared.refusal.Refusal.TheVariants.{Arguments, Image, Line, Size, Read, Write, File, Memory}
+use Rattle.command_parts.specs.declared.refusal.Refusal.TheVariants.{Own, Size, Read, Write}
+use Rattle.command_parts.specs.declared.refusal.Refusal.TheVariants.{File, Memory}
 
 module _ (text bytes : List ℕ) (same : text ≡ bytes) (utf8 : IsUtf8 bytes) where
   -- what comes of the text comes of its bytes
-  pub of_text : (made : Result (List ℕ) Refusal) → TextAssembles text made → Assembles bytes made
+  pub of_text : (made : Result (List ℕ) AsmCause) → TextAssembles text made → Assembles bytes made
   of_text made h = rw (is_utf8-from_IsUtf8 bytes utf8) (subst (λ t. TextAssembles t made) same h)
 
-  pub not_of_text : (refusal : Refusal) → CouldNot TextAssembles text refusal → CouldNot Assembles bytes refusal
-  not_of_text Arguments h = h
-  not_of_text (Image fault) h = of_text (Err (Image fault)) h
-  not_of_text (Line number kind) h = of_text (Err (Line number kind)) h
+  pub not_of_text : (refusal : AsmRefusal) → CouldNot TextAssembles text refusal
+      → CouldNot Assembles bytes refusal
+  not_of_text (Own cause) h = of_text (Err cause) h
   not_of_text Size h = h
   not_of_text Read h = h
   not_of_text Write h = h

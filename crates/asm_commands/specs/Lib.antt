@@ -1,4 +1,5 @@
 pub mod Asm
+pub mod Causes
 pub mod Conversion
 pub mod Dis
 pub mod Listing

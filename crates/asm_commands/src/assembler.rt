@@ -4,7 +4,8 @@ ghost use Rattle.std.specs.Prelude.{◌≡◌, ◌+◌, ◌≤◌, length, take,
 ghost use Rattle.asm_commands.specs.Asm.{TextAssembles, line_feeds};
 ghost use Rattle.asm_commands.specs.Conversion.{CouldNot, source_limit};
 
-use crate::converting::Conversion;
+use crate::cause::AsmCause;
+use crate::converting::{AsmRefusal, Conversion};
 use asm_lines::AsmKind;
 use command_parts::Refusal;
 use rv_asm::{AsmFault, assemble};
@@ -18,26 +19,29 @@ impl Conversion for Assembly {
 
     ghost makes = { Assembles };
 
-    fn make(alloc: Global, input: Vec<u8>) -> Result<Vec<u8>, Refusal> {
+    fn make(alloc: Global, input: Vec<u8>) -> Result<Vec<u8>, AsmRefusal> {
         match str::from_utf8(&input) {
             Ok(text) => file_of(alloc, text),
-            Err(error) => Err(Refusal::Line {
+            Err(error) => Err(Refusal::Own(AsmCause::Line {
                 number: line_behind(&input, error.valid_up_to()),
                 kind: AsmKind::BadShape,
-            }),
+            })),
         }
     }
 }
 
 /// The ELF file of a text, or its first faulty line.
-fn file_of(alloc: Global, text: &str) -> Result<Vec<u8>, Refusal>
+fn file_of(alloc: Global, text: &str) -> Result<Vec<u8>, AsmRefusal>
     requires { length text.now ≤ source_limit }
     ensures made { IfOk result (λ file. TextAssembles text.now (Ok file.items)) }
     ensures refused { IfErr result (CouldNot TextAssembles text.now) }
 {
     match assemble(alloc, text) {
         Ok(file) => Ok(file),
-        Err(AsmFault::At { line, kind }) => Err(Refusal::Line { number: line, kind }),
+        Err(AsmFault::At { line, kind }) => Err(Refusal::Own(AsmCause::Line {
+            number: line,
+            kind,
+        })),
         Err(AsmFault::Memory) => Err(Refusal::Memory),
     }
 }

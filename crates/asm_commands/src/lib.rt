@@ -3,11 +3,10 @@
 #![tactic(auto)]
 
 mod assembler;
+mod cause;
 mod converting;
 mod disassembler;
 mod lines;
 
-pub use assembler::Assembly;
-pub use converting::{Conversion, convert};
-pub use disassembler::Disassembly;
-pub use lines::listing;
+pub use cause::AsmCause;
+pub use converting::{asm, dis};

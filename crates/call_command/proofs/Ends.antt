@@ -1,16 +1,28 @@
 -- How `call` ends where it is refused.
-use Rattle.std.proofs.Common.{◌≡◌, ℕ, ◌<◌, ◌≤◌, List, [], ◌∷◌, length, Option, Some, None, Ok, Err, IfSome, IsOk, refl, ap, inl, inr, arith}
+use Rattle.std.proofs.Common.{◌≡◌, ℕ, ◌<◌, ◌≤◌, List, [], ◌∷◌, length, Option, Some, None, Result, Ok, Err, IfSome, IsOk, refl, ap, inl, inr, arith}
 use Rattle.elf64.specs.Elf.{elf}
 use Rattle.elf64.specs.declared.fault.ElfFault.{ElfFault}
+use Rattle.elf64.specs.declared.fault.ImageFault.{ImageFault}
 use Rattle.image_model.specs.declared.image.Image.{Image as Program}
 use Rattle.machine_model.specs.Hypercall.{packet_limit}
-use Rattle.call_command.specs.Call.{Answers, Contents, CallEnds, HasFile, Refuses, TellsFile, TellsNone}
-use Rattle.command_parts.specs.Ending.{EndsIn, Reports}
-use Rattle.command_parts.specs.Outside.{Outside, Seen, Fails, IsKept, no_sink, outside}
-use Rattle.command_parts.specs.Refusals.{line_of, status_of}
-use Rattle.command_parts.specs.declared.ending.Plain.TheVariants.{Done}
+use Rattle.call_command.specs.Call.{Answers, CallDoes, CallEnds, CallRefusal, HasFile, IsCut}
+use Rattle.call_command.specs.Call.{Refuses, TellsFile, TellsNone, TellsNoImage}
+use Rattle.command_parts.proofs.Endings.{some_status}
+use Rattle.command_parts.specs.Ending.{EndsAs, EndsIn, Reports}
+use Rattle.command_parts.specs.ImageLine.{fault_line, fault_status}
+use Rattle.command_parts.specs.Outside.{Contents, Outside, Seen, Stream, Fails, IsKept}
+use Rattle.command_parts.specs.Outside.{no_sink, outside, reporting}
+use Rattle.command_parts.specs.Refusals.{IsOwnStatus, line_of, status_of}
 use Rattle.command_parts.specs.declared.refusal.Refusal.{Refusal}
-use Rattle.command_parts.specs.declared.refusal.Refusal.TheVariants.{Arguments, Image, Line, Size, Read, Write, File, Memory}
+use Rattle.command_parts.specs.declared.refusal.Refusal.TheVariants.{Own, Size, Read, Write}
+use Rattle.command_parts.specs.declared.refusal.Refusal.TheVariants.{File, Memory}
+
+-- the status of a refusal of `call`
+abbrev call_status : CallRefusal → ℕ
+call_status refusal = status_of fault_status refusal
+
+pub own_is : (fault : ImageFault) → IsOwnStatus (fault_status fault)
+own_is fault = (omega arith, inl (omega arith))
 
 -- ---- what files and source tell
 
@@ -42,20 +54,16 @@ not_both a b fault program same e f = let g : elf a ≡ elf b = ap elf same in c
 -- ---- one refusal
 
 module _ (o : Outside) (name : List ℕ) where
-  missing_ends : (refusal : Refusal) → Refuses o name refusal → TellsNone o.files.before name → EndsIn (6 ∷ 7 ∷ []) (Done (status_of refusal))
-  missing_ends Arguments h none = absurd h
-  missing_ends (Image fault) h none = absurd (none_has o.files.before name _ none h.0)
-  missing_ends (Line number kind) h none = absurd h
+  missing_ends : (refusal : CallRefusal) → Refuses o name refusal → TellsNone o.files.before name → EndsIn (6 ∷ 7 ∷ []) (call_status refusal)
+  missing_ends (Own fault) h none = absurd (none_has o.files.before name _ none h.0)
   missing_ends Size h none = absurd (none_has o.files.before name _ none h.0)
   missing_ends Read h none = absurd (none_has o.files.before name _ none h.0)
   missing_ends Write h none = absurd (none_is o.files.before name h.line_is.bytes none h.line_is.file_is)
   missing_ends File h none = inl refl
   missing_ends Memory h none = inr (inl refl)
 
-  image_ends : (refusal : Refusal) → Refuses o name refusal → (bytes : List ℕ) (fault : ElfFault) → TellsFile o.files.before name bytes → elf bytes ≡ Err fault → EndsIn (2 ∷ 6 ∷ 7 ∷ []) (Done (status_of refusal))
-  image_ends Arguments h bytes fault tells e = absurd h
-  image_ends (Image other) h bytes fault tells e = inl refl
-  image_ends (Line number kind) h bytes fault tells e = absurd h
+  image_ends : (refusal : CallRefusal) → Refuses o name refusal → (bytes : List ℕ) (fault : ElfFault) → TellsFile o.files.before name bytes → elf bytes ≡ Err fault → EndsIn (2 ∷ 6 ∷ 7 ∷ []) (call_status refusal)
+  image_ends (Own other) h bytes fault tells e = inl refl
   image_ends Size h bytes fault tells e = absurd (not_ok bytes fault e (of_bytes o.files.before name bytes _ tells h.0))
   image_ends Read h bytes fault tells e = absurd (not_ok bytes fault e (of_bytes o.files.before name bytes _ tells h.0))
   image_ends Write h bytes fault tells e =
@@ -66,10 +74,8 @@ module _ (o : Outside) (name : List ℕ) where
   not_image : (fault : ElfFault) (bytes : List ℕ) (program : Program) → HasFile o.files.before name (λ found. elf found ≡ Err fault) → TellsFile o.files.before name bytes → elf bytes ≡ Ok program → ⊥
   not_image fault bytes program h tells e = not_both bytes bytes fault program refl (of_bytes o.files.before name bytes _ tells h) e
 
-  size_ends : (refusal : Refusal) → Refuses o name refusal → (bytes packet : List ℕ) (program : Program) → TellsFile o.files.before name bytes → elf bytes ≡ Ok program → o.source.before ≡ Some packet → packet_limit < length packet → EndsIn (3 ∷ 4 ∷ 6 ∷ 7 ∷ []) (Done (status_of refusal))
-  size_ends Arguments h bytes packet program tells e left long = absurd h
-  size_ends (Image fault) h bytes packet program tells e left long = absurd (not_image fault.fault bytes program h.0 tells e)
-  size_ends (Line number kind) h bytes packet program tells e left long = absurd h
+  size_ends : (refusal : CallRefusal) → Refuses o name refusal → (bytes packet : List ℕ) (program : Program) → TellsFile o.files.before name bytes → elf bytes ≡ Ok program → o.source.before ≡ Some packet → packet_limit < length packet → EndsIn (3 ∷ 4 ∷ 6 ∷ 7 ∷ []) (call_status refusal)
+  size_ends (Own fault) h bytes packet program tells e left long = absurd (not_image fault.fault bytes program h.0 tells e)
   size_ends Size h bytes packet program tells e left long = inl refl
   size_ends Read h bytes packet program tells e left long = inr (inl refl)
   size_ends Write h bytes packet program tells e left long =
@@ -80,10 +86,8 @@ module _ (o : Outside) (name : List ℕ) where
   size_ends File h bytes packet program tells e left long = inr (inr (inl refl))
   size_ends Memory h bytes packet program tells e left long = inr (inr (inr (inl refl)))
 
-  complete_ends : (refusal : Refusal) → Refuses o name refusal → (bytes packet : List ℕ) (program : Program) → TellsFile o.files.before name bytes → elf bytes ≡ Ok program → o.source.before ≡ Some packet → length packet ≤ packet_limit → (Fails o.files → ⊥) → (Fails o.source → ⊥) → (Fails o.sink → ⊥) → EndsIn (0 ∷ 7 ∷ []) (Done (status_of refusal))
-  complete_ends Arguments h bytes packet program tells e left short f s k = absurd h
-  complete_ends (Image fault) h bytes packet program tells e left short f s k = absurd (not_image fault.fault bytes program h.0 tells e)
-  complete_ends (Line number kind) h bytes packet program tells e left short f s k = absurd h
+  complete_ends : (refusal : CallRefusal) → Refuses o name refusal → (bytes packet : List ℕ) (program : Program) → TellsFile o.files.before name bytes → elf bytes ≡ Ok program → o.source.before ≡ Some packet → length packet ≤ packet_limit → (Fails o.files → ⊥) → (Fails o.source → ⊥) → (Fails o.sink → ⊥) → EndsIn (0 ∷ 7 ∷ []) (call_status refusal)
+  complete_ends (Own fault) h bytes packet program tells e left short f s k = absurd (not_image fault.fault bytes program h.0 tells e)
   complete_ends Size h bytes packet program tells e left short f s k =
       let long = (rw left at h.1).0 in
       absurd (omega (arith, long))
@@ -92,49 +96,84 @@ module _ (o : Outside) (name : List ℕ) where
   complete_ends File h bytes packet program tells e left short f s k = absurd (f h)
   complete_ends Memory h bytes packet program tells e left short f s k = inr (inl refl)
 
-  not_done : (refusal : Refusal) → Done (status_of refusal) ≡ Done 0 → ⊥
-  not_done Arguments e = cc
-  not_done (Image fault) e = cc
-  not_done (Line number kind) e = cc
-  not_done Size e = cc
-  not_done Read e = cc
-  not_done Write e = cc
-  not_done File e = cc
-  not_done Memory e = cc
-
   -- a refusal that has its cause and was reported
-  pub refused_ends : (errs : Seen (Option (List ℕ))) (refusal : Refusal) → Refuses o name refusal → Reports (line_of refusal) errs → CallEnds o errs name (Done (status_of refusal))
-  refused_ends errs refusal h reported = record {
-    done = λ e. absurd (not_done refusal e);
+  refused_ends : (refusal : CallRefusal) → Refuses o name refusal
+      → (TellsNoImage o.files.before name → IsKept o.source)
+      → Reports (line_of fault_line refusal) o.errs → CallEnds o name (call_status refusal)
+  refused_ends refusal h untouched reported = record {
+    done = λ e. let some = some_status fault_status own_is refusal in absurd (omega (arith, e, some));
     refused = inr (refusal, refl, h, reported);
+    untouched = untouched;
     missing = missing_ends refusal h;
     image = image_ends refusal h;
     size = size_ends refusal h;
     complete = complete_ends refusal h;
   }
 
+  -- an answer ends with 0
+  done_ends : Answers o name → (TellsNoImage o.files.before name → IsKept o.source)
+      → IsKept o.errs → CallEnds o name 0
+  done_ends h untouched kept = record {
+    done = λ e. (h, kept);
+    refused = inl refl;
+    untouched = untouched;
+    missing = λ none. absurd (none_is o.files.before name h.line_is.bytes none h.line_is.file_is);
+    image = λ bytes fault tells e. absurd (not_both bytes h.line_is.bytes fault h.line_is.program (same_bytes o.files.before name bytes h.line_is.bytes tells h.line_is.file_is) e h.line_is.image_is);
+    size = λ bytes packet program tells e left long.
+        let same : packet ≡ h.line_is.packet = rw left at h.line_is.packet_is in
+        let size : length packet ≡ length h.line_is.packet = ap length same in
+        let short : length h.line_is.packet ≤ packet_limit = h.line_is.short in
+        absurd (omega arith);
+    complete = λ bytes packet program tells e left short f s k. inl refl;
+  }
+
+-- ---- what is reported changes nothing of it
+
+answers_too : (o : Outside) (errs : Stream) (name : List ℕ) → Answers o name
+    → Answers (reporting o errs) name
+answers_too o errs name h = record {
+  line = h.line;
+  line_is = h.line_is;
+  written = h.written;
+  read = h.read;
+}
+
+refuses_too : (o : Outside) (errs : Stream) (name : List ℕ) (refusal : CallRefusal)
+    → Refuses o name refusal → Refuses (reporting o errs) name refusal
+refuses_too o errs name (Own fault) h = h
+refuses_too o errs name Size h = h
+refuses_too o errs name Read h = h
+refuses_too o errs name Write h = record {
+  line = h.line;
+  line_is = h.line_is;
+  failed = h.failed;
+  part = h.part;
+  within = h.within;
+  written = h.written;
+  read = h.read;
+}
+refuses_too o errs name File h = h
+refuses_too o errs name Memory h = h
+
 -- a refusal before anything was written is one over any sink
-pub over_sink : (files : Seen Contents) (source sink : Seen (Option (List ℕ))) (name : List ℕ) (refusal : Refusal) → Refuses (outside files source no_sink) name refusal → Refuses (outside files source sink) name refusal
-over_sink files source sink name Arguments h = h
-over_sink files source sink name (Image fault) h = h
-over_sink files source sink name (Line number kind) h = h
+pub over_sink : (files : Seen Contents) (source sink : Stream) (name : List ℕ)
+    (refusal : CallRefusal) → Refuses (outside files source no_sink no_sink) name refusal
+    → Refuses (outside files source sink no_sink) name refusal
+over_sink files source sink name (Own fault) h = h
 over_sink files source sink name Size h = h
 over_sink files source sink name Read h = h
 over_sink files source sink name Write h = let failed = h.failed in absurd (omega (arith, failed))
 over_sink files source sink name File h = h
 over_sink files source sink name Memory h = h
 
--- an answer ends with 0
-pub done_ends : (o : Outside) (errs : Seen (Option (List ℕ))) (name : List ℕ) → Answers o name → IsKept errs → CallEnds o errs name (Done 0)
-done_ends o errs name h kept = record {
-  done = λ e. (h, kept);
-  refused = inl refl;
-  missing = λ none. absurd (none_is o.files.before name h.line_is.bytes none h.line_is.file_is);
-  image = λ bytes fault tells e. absurd (not_both bytes h.line_is.bytes fault h.line_is.program (same_bytes o.files.before name bytes h.line_is.bytes tells h.line_is.file_is) e h.line_is.image_is);
-  size = λ bytes packet program tells e left long.
-      let same : packet ≡ h.line_is.packet = rw left at h.line_is.packet_is in
-      let size : length packet ≡ length h.line_is.packet = ap length same in
-      let short : length h.line_is.packet ≤ packet_limit = h.line_is.short in
-      absurd (omega arith);
-  complete = λ bytes packet program tells e left short f s k. inl refl;
-}
+-- how it ends: it was done or refused, and a refusal reported
+pub ends : {T : Type 0} (o : Outside) (errs : Stream) (name : List ℕ)
+    (result : Result T CallRefusal) (status : ℕ) → CallDoes o name result
+    → (TellsNoImage o.files.before name → IsKept o.source)
+    → EndsAs fault_status fault_line result errs status → CallEnds (reporting o errs) name status
+ends o errs name (Ok done) status h untouched end =
+    rw end.0 (done_ends (reporting o errs) name (answers_too o errs name h) untouched end.1)
+ends o errs name (Err refusal) status h untouched end =
+    rw end.0
+    (refused_ends (reporting o errs) name refusal (refuses_too o errs name refusal h)
+    untouched end.1)

@@ -4,7 +4,8 @@ use Rattle.std.proofs.lemmas.Bool.Decides.{nat_tests}
 use Rattle.std.proofs.lemmas.Option.{IfSome_then}
 use Rattle.elf64.specs.Elf.{elf, file_checks}
 use Rattle.elf64.specs.declared.fault.ElfFault.TheVariants.{TooBig}
-use Rattle.call_command.specs.Call.{Contents, HasFault}
+use Rattle.call_command.specs.Call.{HasFault}
+use Rattle.command_parts.specs.Outside.{Contents}
 
 -- the image fault of a file that is too big
 pub elf-too_big : (bytes : List ℕ) → 2 ^ 24 < length bytes → elf bytes ≡ Err TooBig

@@ -294,7 +294,7 @@ fn refuses_what_is_no_image(rt: HostRuntime) -> Result<(), Fail> {
 }
 
 /// The arguments, the calls that fail, and what becomes of the packet 01 02.
-const OUTCOMES: [(&[&str], Failing, Outcome<'static>); 23] = [
+const OUTCOMES: [(&[&str], Failing, Outcome<'static>); 24] = [
     (&[], (1, 1, 0, 0), (1, "", "seuss: words\n")),
     (&["call"], (1, 1, 0, 0), (1, "", "seuss: words\n")),
     (&["call", ""], (1, 1, 0, 0), (1, "", "seuss: words\n")),
@@ -311,6 +311,11 @@ const OUTCOMES: [(&[&str], Failing, Outcome<'static>); 23] = [
         (1, "", "seuss: words\n"),
     ),
     (&["call", "other.elf"], NONE, (6, "", "seuss: file fault\n")),
+    (
+        &["call", "other.elf"],
+        (0, 1, 0, 0),
+        (6, "", "seuss: file fault\n"),
+    ),
     (CALL, (1, 1, 1, 0), (6, "", "seuss: file fault\n")),
     (CALL, (2, 0, 0, 1), (0, "halt:0 12 0102 -\n", "")),
     // The third read finds the end.
@@ -391,7 +396,7 @@ fn assembles_a_text(rt: HostRuntime) -> Result<(), Fail> {
 }
 
 /// Texts that `asm` refuses, or the calls that fail, and what becomes of them.
-const TEXTS: [(&[u8], Failing, Outcome<'static>); 8] = [
+const TEXTS: [(&[u8], Failing, Outcome<'static>); 9] = [
     (
         b".segment 0x10000 rx 4096\naddi a0, x0, 2048\n",
         NONE,
@@ -408,6 +413,7 @@ const TEXTS: [(&[u8], Failing, Outcome<'static>); 8] = [
         (3, "", "seuss: line 2 Undefined\n"),
     ),
     (b"addi x1, x0, 1", NONE, (3, "", "seuss: line 1 BadShape\n")),
+    (b"", NONE, (3, "", "seuss: line 1 BadShape\n")),
     // Bytes that are no text, behind a line that has another fault.
     (
         b"foo\n\xc3\xa9\n\xc3\n",
@@ -433,7 +439,7 @@ fn refuses_a_text(rt: HostRuntime) -> Result<(), Fail> {
 
 /// The arguments, how many bytes of the file are there, the calls that fail, and what becomes of
 /// the listing of three words.
-const LISTINGS: [(&[&str], usize, Failing, Outcome<'static>); 6] = [
+const LISTINGS: [(&[&str], usize, Failing, Outcome<'static>); 7] = [
     (&["dis"], 132, NONE, (0, TINY_LINES, "")),
     (
         &["dis"],
@@ -444,6 +450,7 @@ const LISTINGS: [(&[&str], usize, Failing, Outcome<'static>); 6] = [
     (&["dis"], 132, (0, 3, 0, 0), (4, "", "seuss: read fault\n")),
     (&["dis"], 132, (1, 0, 0, 1), (0, TINY_LINES, "")),
     (&["dis"], 63, NONE, (2, "", "seuss: image Short\n")),
+    (&["dis"], 131, NONE, (2, "", "seuss: image SegmentRange\n")),
     (&["dis", "x"], 132, (0, 1, 0, 0), (1, "", "seuss: words\n")),
 ];
 

@@ -1,27 +1,21 @@
 -- A source that was read to its end.
-use Rattle.std.proofs.Common.{◌≡◌, ℕ, ◌+◌, ◌≤◌, List, length, Option, Some, None, sym, ◌∙◌, ap, arith}
+use Rattle.std.proofs.Common.{◌≡◌, ℕ, ◌+◌, ◌≤◌, List, [], length, Option, Some, None, IfSome}
+use Rattle.std.proofs.Common.{sym, ◌∙◌, ap, arith}
 use Rattle.std.proofs.Math.Seq.{drop-length}
 use Rattle.edge_streams.specs.Content.{TakesAtMost}
-use Rattle.command_parts.specs.Refusals.{IsBeforeRead}
-use Rattle.command_parts.specs.Sources.{IsInput, RefusesSource}
-use Rattle.command_parts.specs.declared.refusal.Refusal.{Refusal}
-use Rattle.command_parts.specs.declared.refusal.Refusal.TheVariants.{Arguments, Image, Line, Size, Read, Write, File, Memory}
+use Rattle.command_parts.specs.Outside.{Stream}
+use Rattle.command_parts.specs.Sources.{IsInput, IsTaken}
+
+taken : (limit : ℕ) (before after : Option (List ℕ)) (bytes : List ℕ) → length bytes ≤ limit
+    → IfSome before (λ left. left ≡ bytes) → IfSome before (λ left. after ≡ Some [])
+    → TakesAtMost (limit + 1) before after
+taken limit None after bytes within are read = tt
+taken limit (Some left) after bytes within are read =
+    let size : length left ≡ length bytes = ap length are in
+    (length left, omega arith, read ∙ ap Some (sym (drop-length left)))
 
 -- at most one byte more than the limit was taken of it
-pub input_taken : (limit : ℕ) (before after : Option (List ℕ)) (bytes : List ℕ) → IsInput limit before after bytes → TakesAtMost (limit + 1) before after
-input_taken limit None after bytes h = tt
-input_taken limit (Some left) after bytes h =
-    let size : length left ≡ length bytes = ap length h.bytes_are in
-    let within : length bytes ≤ limit = h.within in
-    (length left, omega arith, h.read ∙ ap Some (sym (drop-length left)))
-
--- a source that refuses its bytes was read
-pub not_before : (limit : ℕ) (refusal : Refusal) (before after : Option (List ℕ)) (fails : Type 0) → RefusesSource limit before after fails refusal → IsBeforeRead refusal → ⊥
-not_before limit Arguments before after fails h b = h
-not_before limit (Image fault) before after fails h b = h
-not_before limit (Line number kind) before after fails h b = h
-not_before limit Size before after fails h b = b
-not_before limit Read before after fails h b = b
-not_before limit Write before after fails h b = h
-not_before limit File before after fails h b = h
-not_before limit Memory before after fails h b = b
+pub input_taken : (limit : ℕ) (source : Stream) (bytes : List ℕ)
+    → IsInput limit source bytes → IsTaken (limit + 1) source
+input_taken limit source bytes h =
+    taken limit source.before source.after bytes h.within h.bytes_are h.read

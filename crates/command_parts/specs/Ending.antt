@@ -1,44 +1,55 @@
 -- How a command ends.
-use Rattle.std.specs.Prelude.{◌≡◌, ◌≢◌, ℕ, ◌⊎◌, List, [], ◌∷◌, take, Option, Result, IfErr, Err}
+use Rattle.std.specs.Prelude.{◌≡◌, ◌≢◌, ℕ, ◌⊎◌, List, [], ◌∷◌, take, Result, Ok, Err}
+use Rattle.std.specs.Prelude.{IfErr}
 use Rattle.edge_streams.specs.Content.{Adds}
 use Rattle.elf64.specs.Elf.{elf}
-use Rattle.command_parts.specs.Outside.{Outside, Seen, Fails, IsCounted, IsKept, IsMonotone}
-use Rattle.command_parts.specs.Refusals.{IsBeforeRead}
-use Rattle.command_parts.specs.declared.ending.Plain.{Plain}
-use Rattle.command_parts.specs.declared.ending.Plain.TheVariants.{Done}
+use Rattle.command_parts.specs.Outside.{Outside, Stream, Fails, IsCounted, IsKept}
+use Rattle.command_parts.specs.Outside.{IsMonotone}
+use Rattle.command_parts.specs.Refusals.{status_of, line_of}
+use Rattle.command_parts.specs.declared.image_cause.NoImage.{NoImage}
+use Rattle.command_parts.specs.declared.image_cause.NoImage.TheVariants as unread
 use Rattle.command_parts.specs.declared.refusal.Refusal.{Refusal}
-use Rattle.command_parts.specs.declared.refusal.Refusal.TheVariants.{Arguments, Image, Line, Size}
-use Rattle.command_parts.specs.declared.refusal.Refusal.TheVariants.{Read, Write, File, Memory}
+use Rattle.command_parts.specs.declared.refusal.Refusal.TheVariants.{Read, Write, File}
 
--- in one of these statuses
-abbrev pub EndsIn : List ℕ → Plain → Type 0
-EndsIn [] plain = ⊥
-EndsIn (status ∷ statuses) plain = (plain ≡ Done status) ⊎ EndsIn statuses plain
+-- it is one of these statuses
+abbrev pub EndsIn : List ℕ → ℕ → Type 0
+EndsIn [] status = ⊥
+EndsIn (one ∷ others) status = (status ≡ one) ⊎ EndsIn others status
 
 -- a line went out, or a part of it from the front where a write of it failed
-abbrev pub Reports : List ℕ → Seen (Option (List ℕ)) → Type 0
+abbrev pub Reports : List ℕ → Stream → Type 0
 Reports line errs =
     Adds line errs.before errs.after
     ⊎ (Fails errs × ((n : ℕ) × Adds (take n line) errs.before errs.after))
 
--- what every command keeps: files always, the source until it is read, the sink but where it
--- writes; and a count of faults but where its object's fault is the refusal
-pub record Keeps {T : Type 0} (o : Outside) (result : Result T Refusal) : Type 0 where
-  pub files : IsKept o.files
-  pub source : IfErr result (λ refusal. IsBeforeRead refusal → IsKept o.source)
+-- the status of a command that was done or refused; a refusal was reported, and nothing else
+abbrev pub EndsAs : {C T : Type 0} → (status : C → ℕ) → (line : C → List ℕ)
+    → Result T (Refusal C) → Stream → ℕ → Type 0
+EndsAs status line (Ok done) errs ended = (ended ≡ 0) × IsKept errs
+EndsAs status line (Err refusal) errs ended =
+    (ended ≡ status_of status refusal) × Reports (line_of line refusal) errs
+
+-- What every command keeps on its way to being done or refused: the source until it is read, the
+-- sink until it is written; and a count of faults but where its object's fault is the refusal.
+pub record Keeps {C T : Type 0} (o : Outside) (result : Result T (Refusal C)) : Type 0 where
+  pub source : result ≡ Err File → IsKept o.source
   pub sink : IfErr result (λ refusal. refusal ≢ Write → IsKept o.sink)
   pub files_count : result ≢ Err File → IsCounted o.files
   pub source_count : result ≢ Err Read → IsCounted o.source
   pub sink_count : result ≢ Err Write → IsCounted o.sink
   pub monotone : IsMonotone o
 
+-- The same of a command that ended with a status. Its arguments had a form.
+pub record Leaves (o : Outside) (status : ℕ) : Type 0 where
+  pub formed : status ≢ 1
+  pub source : status ≡ 6 → IsKept o.source
+  pub sink : status ≢ 0 → status ≢ 5 → IsKept o.sink
+  pub files_count : status ≢ 6 → IsCounted o.files
+  pub source_count : status ≢ 4 → IsCounted o.source
+  pub sink_count : status ≢ 5 → IsCounted o.sink
+  pub monotone : IsMonotone o
+
 -- why bytes are no image
-abbrev pub RefusesBytes : List ℕ → Refusal → Type 0
-RefusesBytes bytes Arguments = ⊥
-RefusesBytes bytes (Image fault) = elf bytes ≡ Err fault.fault
-RefusesBytes bytes (Line number kind) = ⊥
-RefusesBytes bytes Size = ⊥
-RefusesBytes bytes Read = ⊥
-RefusesBytes bytes Write = ⊥
-RefusesBytes bytes File = ⊥
-RefusesBytes bytes Memory = Unit {0}
+abbrev pub RefusesBytes : List ℕ → NoImage → Type 0
+RefusesBytes bytes (unread.Fault fault) = elf bytes ≡ Err fault.fault
+RefusesBytes bytes unread.Memory = Unit {0}

@@ -1,7 +1,8 @@
--- The line of each image fault.
+-- The status and the line of each image fault.
 use Rattle.std.specs.Prelude.{ℕ, List, codes}
 use Rattle.elf64.specs.declared.fault.ElfFault.{ElfFault}
 use Rattle.elf64.specs.declared.fault.ElfFault.TheVariants as elf
+use Rattle.elf64.specs.declared.fault.ImageFault.{ImageFault}
 
 -- it names the fault
 abbrev pub image_line : ElfFault → List ℕ
@@ -19,3 +20,10 @@ image_line elf.Address = codes "seuss: image Address\n"
 image_line elf.Overlap = codes "seuss: image Overlap\n"
 image_line elf.Entry = codes "seuss: image Entry\n"
 image_line elf.Memory = codes "seuss: memory\n"
+
+-- of a file that is refused
+abbrev pub fault_status : ImageFault → ℕ
+fault_status fault = 2
+
+abbrev pub fault_line : ImageFault → List ℕ
+fault_line fault = image_line fault.fault

@@ -1,4 +1,4 @@
--- What a command has outside: files, a source and sinks, before it and after it.
+-- What a command has outside: files, a source and two sinks, before it and after it.
 use Rattle.std.specs.Prelude.{◌≡◌, ℕ, ◌≤◌, List, Option, None}
 use Rattle.edge_streams.specs.Faults.{Rises}
 
@@ -13,6 +13,10 @@ abbrev pub seen : {A : Type 0} → (before after : A) → (faults faults_after :
 seen before after faults faults_after =
     record { before = before; after = after; faults = faults; faults_after = faults_after }
 
+-- an object before and after, by what it tells and by its count
+abbrev pub see : {T A : Type 0} → (told : T → A) → (count : T → ℕ) → (before after : T) → Seen A
+see told count before after = seen (told before) (told after) (count before) (count after)
+
 -- a call of it failed
 abbrev pub Fails : {A : Type 0} → Seen A → Type 0
 Fails s = Rises s.faults s.faults_after
@@ -25,24 +29,57 @@ IsCounted s = s.faults_after ≡ s.faults
 abbrev pub IsKept : {A : Type 0} → Seen A → Type 0
 IsKept s = s.after ≡ s.before
 
+-- what files tell: for each name the bytes of its file, or none where there is no such file
+abbrev pub Contents : Type 0
+Contents = Option (List ℕ → Option (List ℕ))
+
+-- what a source has left, or a sink was given
+abbrev pub Stream : Type 0
+Stream = Seen (Option (List ℕ))
+
 pub record Outside : Type 0 where
-  -- for each name the bytes of its file, or none where there is no such file
-  pub files : Seen (Option (List ℕ → Option (List ℕ)))
+  pub files : Seen Contents
   -- what is left to read
-  pub source : Seen (Option (List ℕ))
+  pub source : Stream
   -- all that was written
-  pub sink : Seen (Option (List ℕ))
+  pub sink : Stream
+  -- all that was reported
+  pub errs : Stream
 
-abbrev pub outside : Seen (Option (List ℕ → Option (List ℕ)))
-    → (source sink : Seen (Option (List ℕ))) → Outside
-outside files source sink = record { files = files; source = source; sink = sink }
+abbrev pub outside : Seen Contents → (source sink errs : Stream) → Outside
+outside files source sink errs =
+    record { files = files; source = source; sink = sink; errs = errs }
 
--- a sink of which nothing is said
-abbrev pub no_sink : Seen (Option (List ℕ))
+-- the same, but for what was reported
+abbrev pub reporting : Outside → Stream → Outside
+reporting o errs = outside o.files o.source o.sink errs
+
+-- files of which nothing is said, and a sink of which nothing is
+abbrev pub no_files : Seen Contents
+no_files = seen None None 0 0
+
+abbrev pub no_sink : Stream
 no_sink = seen None None 0 0
+
+-- nothing happened but what was reported
+pub record IsUntouched (o : Outside) : Type 0 where
+  pub source : IsKept o.source
+  pub sink : IsKept o.sink
+  pub files_count : IsCounted o.files
+  pub source_count : IsCounted o.source
+  pub sink_count : IsCounted o.sink
+  pub rises : o.errs.faults ≤ o.errs.faults_after
 
 -- no count falls
 pub record IsMonotone (o : Outside) : Type 0 where
   pub files : o.files.faults ≤ o.files.faults_after
   pub source : o.source.faults ≤ o.source.faults_after
   pub sink : o.sink.faults ≤ o.sink.faults_after
+  pub errs : o.errs.faults ≤ o.errs.faults_after
+
+-- which objects they are, by the names of the references to them
+pub record Names : Type 0 where
+  pub files : ℕ
+  pub source : ℕ
+  pub sink : ℕ
+  pub errs : ℕ

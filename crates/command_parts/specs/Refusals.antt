@@ -1,46 +1,28 @@
--- The status and the line of each refusal.
-use Rattle.std.specs.Prelude.{ℕ, List, ◌++◌, codes}
-use Rattle.std.specs.Fmt.{decimal}
-use Rattle.asm_lines.specs.KindName.{kind_name}
-use Rattle.asm_lines.specs.declared.fault.AsmKind.{AsmKind}
-use Rattle.command_parts.specs.ImageLine.{image_line}
+-- The status and the line of each refusal. What a command is refused for besides has a status and
+-- a line of its own.
+use Rattle.std.specs.Prelude.{ℕ, ◌<◌, ◌⊎◌, List, codes}
 use Rattle.command_parts.specs.declared.refusal.Refusal.{Refusal}
-use Rattle.command_parts.specs.declared.refusal.Refusal.TheVariants.{Arguments, Image, Line, Size}
-use Rattle.command_parts.specs.declared.refusal.Refusal.TheVariants.{Read, Write, File, Memory}
+use Rattle.command_parts.specs.declared.refusal.Refusal.TheVariants.{Own, Size, Read, Write}
+use Rattle.command_parts.specs.declared.refusal.Refusal.TheVariants.{File, Memory}
 
-abbrev pub status_of : Refusal → ℕ
-status_of Arguments = 1
-status_of (Image fault) = 2
-status_of (Line number kind) = 3
-status_of Size = 3
-status_of Read = 4
-status_of Write = 5
-status_of File = 6
-status_of Memory = 7
-
--- the line of a faulty line of text
-abbrev pub text_line : (number : ℕ) → AsmKind → List ℕ
-text_line number kind =
-    codes "seuss: line " ++ (decimal number ++ (codes " " ++ (kind_name kind ++ codes "\n")))
+abbrev pub status_of : {C : Type 0} → (own : C → ℕ) → Refusal C → ℕ
+status_of own (Own cause) = own cause
+status_of own Size = 3
+status_of own Read = 4
+status_of own Write = 5
+status_of own File = 6
+status_of own Memory = 7
 
 -- what is said of a refusal
-abbrev pub line_of : Refusal → List ℕ
-line_of Arguments = codes "seuss: words\n"
-line_of (Image fault) = image_line fault.fault
-line_of (Line number kind) = text_line number kind
-line_of Size = codes "seuss: size\n"
-line_of Read = codes "seuss: read fault\n"
-line_of Write = codes "seuss: write fault\n"
-line_of File = codes "seuss: file fault\n"
-line_of Memory = codes "seuss: memory\n"
+abbrev pub line_of : {C : Type 0} → (own : C → List ℕ) → Refusal C → List ℕ
+line_of own (Own cause) = own cause
+line_of own Size = codes "seuss: size\n"
+line_of own Read = codes "seuss: read fault\n"
+line_of own Write = codes "seuss: write fault\n"
+line_of own File = codes "seuss: file fault\n"
+line_of own Memory = codes "seuss: memory\n"
 
--- no command has read of the source yet that is refused so
-abbrev pub IsBeforeRead : Refusal → Type 0
-IsBeforeRead Arguments = Unit {0}
-IsBeforeRead (Image fault) = ⊥
-IsBeforeRead (Line number kind) = ⊥
-IsBeforeRead Size = ⊥
-IsBeforeRead Read = ⊥
-IsBeforeRead Write = ⊥
-IsBeforeRead File = Unit {0}
-IsBeforeRead Memory = ⊥
+-- a status that a command's own cause may have: neither done, nor arguments in no form, nor one
+-- of the statuses 4 to 7 that all share
+abbrev pub IsOwnStatus : ℕ → Type 0
+IsOwnStatus status = (1 < status) × ((status < 4) ⊎ (7 < status))

@@ -1,32 +1,29 @@
-//! Steps that several commands take: the source read to its end, an image from bytes, the output
-//! written.
+//! Steps that several commands take: the source read to its end, and the output written.
 
-ghost use Rattle.std.specs.Prelude.{◌≡◌, ◌≢◌, ℕ, ◌+◌, ◌%◌, ◌<◌, ◌≤◌, length, take};
-ghost use Rattle.std.specs.Prelude.{Ok, Err, IfOk, IfErr, OnOk};
+ghost use Rattle.std.specs.Prelude.{◌≡◌, ◌≢◌, ℕ, ◌<◌, ◌≤◌, length, take};
+ghost use Rattle.std.specs.Prelude.{Err, IfOk, IfErr, OnOk};
 ghost use Rattle.edge_streams.specs.Content.{Adds};
 ghost use Rattle.edge_streams.specs.Faults.{Rises};
-ghost use Rattle.elf64.specs.Elf.{elf};
-ghost use Rattle.command_parts.specs.Ending.{RefusesBytes};
+ghost use Rattle.command_parts.specs.Outside.{see};
 ghost use Rattle.command_parts.specs.Sources.{IsInput, RefusesSource};
 
 use crate::refusal::Refusal;
 use edge_streams::{ReadFault, Sink, Source, read_all, write_all};
-use elf64::{Image, ImageFault, entry_is_sound, read_image};
 use std::alloc::Global;
 
 /// The source's bytes, no more than `limit`. It is read to its end, or for one byte more than
 /// the limit.
 ///
 /// The errors are Size, where there are more; Read, where a read failed; and Memory.
-pub fn read_source<S: Source>(
+pub fn read_source<C, S: Source>(
     alloc: Global,
     source: &mut S,
     limit: usize,
-) -> Result<Vec<u8>, Refusal>
-    ensures input { IfOk result (λ bytes. IsInput limit (S.remaining source.old)
-        (S.remaining source.new) bytes.items) }
-    ensures refused { IfErr result (RefusesSource limit (S.remaining source.old)
-        (S.remaining source.new) (Rises (S.faults source.old) (S.faults source.new))) }
+) -> Result<Vec<u8>, Refusal<C>>
+    ensures input { IfOk result (λ bytes. IsInput limit
+        (see S.remaining S.faults source.old source.new) bytes.items) }
+    ensures refused { IfErr result (RefusesSource limit
+        (see S.remaining S.faults source.old source.new)) }
     ensures counted { result ≢ Err Refusal.Read → S.faults source.new ≡ S.faults source.old }
     ensures monotone { S.faults source.old ≤ S.faults source.new }
 {
@@ -38,28 +35,10 @@ pub fn read_source<S: Source>(
     }
 }
 
-/// The image of a file's bytes. Its entry is a multiple of 4, as each image's is.
-///
-/// The errors are Image, with the first fault of the bytes, and Memory.
-pub fn image_of(alloc: Global, bytes: &[u8]) -> Result<Image, Refusal>
-    ensures image { IfOk result (λ image. elf bytes.now ≡ Ok image) }
-    ensures aligned { IfOk result (λ image. image.entry % 4 ≡ 0) }
-    ensures refused { IfErr result (RefusesBytes bytes.now) }
-{
-    entry_is_sound();
-    match read_image(alloc, bytes) {
-        Ok(image) => Ok(image),
-        Err(fault) => match ImageFault::of(fault) {
-            Some(fault) => Err(Refusal::Image(fault)),
-            None => Err(Refusal::Memory),
-        },
-    }
-}
-
 /// Writes the output. A write that fails leaves a part of it, from the front.
 ///
 /// The only error is Write.
-pub fn write_output<K: Sink>(sink: &mut K, output: &[u8]) -> Result<(), Refusal>
+pub fn write_output<C, K: Sink>(sink: &mut K, output: &[u8]) -> Result<(), Refusal<C>>
     ensures written { OnOk result (Adds output.now (K.contents sink.old) (K.contents sink.new)) }
     ensures refused { IfErr result (λ refusal. (refusal ≡ Refusal.Write)
         × Rises (K.faults sink.old) (K.faults sink.new)

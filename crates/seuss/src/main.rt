@@ -3,12 +3,9 @@
 #![tactic(auto)]
 
 ghost use Rattle.std.specs.Prelude.{◌≡◌, drop};
-ghost use Rattle.command_parts.specs.Ending.{Reports};
-ghost use Rattle.command_parts.specs.Outside.{seen};
-ghost use Rattle.command_parts.specs.Refusals.{line_of, status_of};
 
-use edge_io::{Sink, StdFiles, StdSink, StdSource};
-use seuss_top::{Plain, Refusal, report, run_plain};
+use edge_io::{StdFiles, StdSink, StdSource};
+use seuss_top::{NoForm, Plain, Refusal, finish, run_plain};
 use std::alloc::Global;
 use std::env::Env;
 use std::process::ExitCode;
@@ -26,22 +23,12 @@ fn after_name(all: &[String]) -> &[String]
 
 /// What the program was called with, its name first. Where an argument isn't UTF-8 they are in
 /// no form.
-fn arguments(rt: &(impl Env + Alloc<A = Global>)) -> Result<Vec<String>, Refusal> {
+fn arguments(rt: &(impl Env + Alloc<A = Global>)) -> Result<Vec<String>, Refusal<NoForm>> {
     match env::args(rt) {
         Ok(all) => all.collect(rt.alloc()).map_err(|_| Refusal::Memory),
         Err(error) if error.kind() == io::ErrorKind::OutOfMemory => Err(Refusal::Memory),
-        Err(_) => Err(Refusal::Arguments),
+        Err(_) => Err(Refusal::Own(NoForm)),
     }
-}
-
-/// Reports a refusal, and answers its status.
-fn refuse<E: Sink>(errs: &mut E, refusal: &Refusal) -> u8
-    ensures status { result ≡ status_of refusal.now }
-    ensures reported { Reports (line_of refusal.now)
-        (seen (E.contents errs.old) (E.contents errs.new) (E.faults errs.old) (E.faults errs.new)) }
-{
-    report(errs, refusal);
-    refusal.status()
 }
 
 /// Runs the command that the program was called with, and ends with its status.
@@ -62,7 +49,7 @@ fn main(rt: HostRuntime) -> ExitCode {
             );
             status
         }
-        Err(refusal) => refuse(&mut errs, &refusal),
+        Err(refusal) => finish(&mut errs, Err(refusal)),
     };
     ExitCode::from(status)
 }

@@ -1,71 +1,85 @@
--- What the statuses 1 to 7 say of a refusal, and 0 of an answer.
-use Rattle.std.proofs.Common.{◌≡◌, ◌≢◌, ◌⊎◌, ◌↔◌, ℕ, List, Option, Result, Ok, Err, refl, ap, inl, inr}
-use Rattle.command_parts.specs.Ending.{Reports}
-use Rattle.command_parts.specs.Outside.{Seen}
-use Rattle.command_parts.specs.Refusals.{line_of, status_of, IsBeforeRead}
-use Rattle.command_parts.specs.declared.ending.Plain.TheVariants.{Done}
-use Rattle.command_parts.specs.declared.refusal.Refusal.{Refusal}
-use Rattle.command_parts.specs.declared.refusal.Refusal.TheVariants.{Arguments, Image, Line, Size, Read, Write, File, Memory}
+-- What the program's status says, whether the arguments have no form or are a command.
+use Rattle.std.proofs.Common.{◌≡◌, ◌≢◌, ◌⊎◌, ◌↔◌, ℕ, List, refl, subst, inl, inr, arith}
+use Rattle.asm_commands.specs.Conversion.{ConversionEnds}
+use Rattle.command_parts.specs.Ending.{Leaves, Reports}
+use Rattle.command_parts.specs.Outside.{Outside, IsCounted, IsKept, IsMonotone}
+use Rattle.seuss_top.proofs.Commands.{one_command}
+use Rattle.seuss_top.specs.Command.{Command, CommandEnds, EndsSo, HaveNoForm, IsCommand}
+use Rattle.seuss_top.specs.Command.{Performs, no_form_line}
+use Rattle.seuss_top.specs.declared.command.Plain.{Plain}
+use Rattle.seuss_top.specs.declared.command.Plain.TheVariants.{Done}
 
--- ---- a refusal
+module _ (words : List (List ℕ)) (o : Outside) (status : ℕ) (h : Performs words o status) where
+  ended : (n : ℕ) → Done status ≡ Done n → status ≡ n
+  ended n e = cc
 
-module _ (P : Type 0) where
-  another : {T : Type 0} (refusal : Refusal) → (refusal ≡ Arguments → ⊥) → (Done (status_of refusal) ≡ Done 1 → ⊥) → (◌≡◌ {A = Result T Refusal} (Err refusal) (Err Arguments)) ↔ P → (Done (status_of refusal) ≡ Done 1) ↔ P
-  another refusal differs ends iff = (λ e. absurd (ends e), λ p. let e = iff.1 p in absurd (differs cc))
+  differs : (n : ℕ) → Done status ≢ Done n → status ≢ n
+  differs n other e = other (rw e refl)
 
   -- 1 is that of arguments in no form alone
-  pub refused_no_form : {T : Type 0} (refusal : Refusal) → (◌≡◌ {A = Result T Refusal} (Err refusal) (Err Arguments)) ↔ P → (Done (status_of refusal) ≡ Done 1) ↔ P
-  refused_no_form Arguments iff = (λ e. iff.0 refl, λ p. refl)
-  refused_no_form (Image fault) iff = another (Image fault) (λ e. cc) (λ e. cc) iff
-  refused_no_form (Line number kind) iff = another (Line number kind) (λ e. cc) (λ e. cc) iff
-  refused_no_form Size iff = another Size (λ e. cc) (λ e. cc) iff
-  refused_no_form Read iff = another Read (λ e. cc) (λ e. cc) iff
-  refused_no_form Write iff = another Write (λ e. cc) (λ e. cc) iff
-  refused_no_form File iff = another File (λ e. cc) (λ e. cc) iff
-  refused_no_form Memory iff = another Memory (λ e. cc) (λ e. cc) iff
+  pub no_form : (Done status ≡ Done 1) ↔ HaveNoForm words
+  no_form =
+      elim h [
+        | inl none ↦ (λ e. none.0, λ n. rw none.1 refl)
+        | inr does ↦ (
+          λ e. absurd (does.3.formed (ended 1 e)),
+          λ n. absurd (n does.0 does.1),
+        )
+      ]
 
-  -- 1 and 6 come before the source is read
-  pub refused_source : (refusal : Refusal) → (IsBeforeRead refusal → P) → (Done (status_of refusal) ≡ Done 1) ⊎ (Done (status_of refusal) ≡ Done 6) → P
-  refused_source Arguments keep ends = keep tt
-  refused_source (Image fault) keep ends = elim ends [ inl e ↦ absurd cc | inr e ↦ absurd cc ]
-  refused_source (Line number kind) keep ends = elim ends [ inl e ↦ absurd cc | inr e ↦ absurd cc ]
-  refused_source Size keep ends = elim ends [ inl e ↦ absurd cc | inr e ↦ absurd cc ]
-  refused_source Read keep ends = elim ends [ inl e ↦ absurd cc | inr e ↦ absurd cc ]
-  refused_source Write keep ends = elim ends [ inl e ↦ absurd cc | inr e ↦ absurd cc ]
-  refused_source File keep ends = keep tt
-  refused_source Memory keep ends = elim ends [ inl e ↦ absurd cc | inr e ↦ absurd cc ]
+  pub usage : Done status ≡ Done 1 → Reports no_form_line o.errs
+  usage e = elim h [ inl none ↦ none.2 | inr does ↦ absurd (does.3.formed (ended 1 e)) ]
 
-  -- of the refusals only 5 wrote
-  pub refused_sink : (refusal : Refusal) → (refusal ≢ Write → P) → Done (status_of refusal) ≢ Done 5 → P
-  refused_sink refusal keep ends = keep (λ same. ends (ap (λ r. Done (status_of r)) same))
+  pub command : (command : Command) → IsCommand words command
+      → EndsSo (Done status) (CommandEnds command o)
+  command c is =
+      elim h [
+        | inl none ↦ absurd (none.0 c is)
+        | inr does ↦
+            subst (λ d. CommandEnds d o status) (one_command words does.0 c does.1 is) does.2
+      ]
 
-  -- a status that isn't a refusal's comes of another refusal
-  pub refused_count : {T : Type 0} (refusal other : Refusal) → (◌≢◌ {A = Result T Refusal} (Err refusal) (Err other) → P) → Done (status_of refusal) ≢ Done (status_of other) → P
-  refused_count refusal other keep ends =
-      keep (λ same. let r : refusal ≡ other = cc in ends (ap (λ s. Done (status_of s)) r))
+  -- ---- what is kept
 
--- at 1 it was said that the arguments are in no form
-pub refused_usage : (refusal : Refusal) (errs : Seen (Option (List ℕ))) → Reports (line_of refusal) errs → Done (status_of refusal) ≡ Done 1 → Reports (line_of Arguments) errs
-refused_usage Arguments errs reported e = reported
-refused_usage (Image fault) errs reported e = absurd cc
-refused_usage (Line number kind) errs reported e = absurd cc
-refused_usage Size errs reported e = absurd cc
-refused_usage Read errs reported e = absurd cc
-refused_usage Write errs reported e = absurd cc
-refused_usage File errs reported e = absurd cc
-refused_usage Memory errs reported e = absurd cc
+  pub source : (Done status ≡ Done 1) ⊎ (Done status ≡ Done 6) → IsKept o.source
+  source ends =
+      elim h [
+        | inl none ↦ none.3.source
+        | inr does ↦
+            elim ends
+            [ inl e ↦ absurd (does.3.formed (ended 1 e)) | inr e ↦ does.3.source (ended 6 e) ]
+      ]
 
--- ---- an answer
+  pub sink : Done status ≢ Done 0 → Done status ≢ Done 5 → IsKept o.sink
+  sink zero five =
+      elim h
+      [ inl none ↦ none.3.sink | inr does ↦ does.3.sink (differs 0 zero) (differs 5 five) ]
 
-module _ (P : Type 0) where
-  pub done_no_form : {T : Type 0} (done : T) → (◌≡◌ {A = Result T Refusal} (Ok done) (Err Arguments)) ↔ P → (Done 0 ≡ Done 1) ↔ P
-  done_no_form done iff = (λ e. absurd cc, λ p. let e = iff.1 p in absurd cc)
+  pub source_count : Done status ≢ Done 4 → IsCounted o.source
+  source_count other =
+      elim h
+      [ inl none ↦ none.3.source_count | inr does ↦ does.3.source_count (differs 4 other) ]
 
-  pub done_differs : Done 0 ≡ Done 1 → P
-  done_differs e = absurd cc
+  pub sink_count : Done status ≢ Done 5 → IsCounted o.sink
+  sink_count other =
+      elim h [ inl none ↦ none.3.sink_count | inr does ↦ does.3.sink_count (differs 5 other) ]
 
-  pub done_source : (Done 0 ≡ Done 1) ⊎ (Done 0 ≡ Done 6) → P
-  done_source ends = elim ends [ inl e ↦ absurd cc | inr e ↦ absurd cc ]
+  pub files_count : Done status ≢ Done 6 → IsCounted o.files
+  files_count other =
+      elim h [ inl none ↦ none.3.files_count | inr does ↦ does.3.files_count (differs 6 other) ]
 
-  pub done_sink : Done 0 ≢ Done 0 → P
-  done_sink differs = absurd (differs refl)
+  pub monotone : IsMonotone o
+  monotone =
+      elim h [
+        | inl none ↦ (
+            let f = none.3.files_count in
+            let s = none.3.source_count in
+            let k = none.3.sink_count in
+            record {
+              files = omega (arith, f);
+              source = omega (arith, s);
+              sink = omega (arith, k);
+              errs = none.3.rises;
+            })
+        | inr does ↦ does.3.monotone
+      ]

@@ -1,20 +1,16 @@
 //! The program's commands.
 
-ghost use Rattle.std.specs.Prelude.{◌≡◌, ◌≢◌, ℕ, ◌≤◌, ◌⊎◌, ◌↔◌, List, Err};
-ghost use Rattle.asm_commands.specs.Asm.{Assembles};
-ghost use Rattle.asm_commands.specs.Conversion.{ConversionDoes, ConversionEnds};
-ghost use Rattle.asm_commands.specs.Dis.{Lists};
-ghost use Rattle.call_command.specs.Call.{CallDoes, CallEnds};
-ghost use Rattle.command_parts.specs.Ending.{Keeps, Reports};
-ghost use Rattle.command_parts.specs.Outside.{outside, seen};
-ghost use Rattle.command_parts.specs.Refusals.{line_of};
+ghost use Rattle.std.specs.Prelude.{◌≡◌, ◌≢◌, ℕ, ◌≤◌, ◌⊎◌, ◌↔◌};
+ghost use Rattle.command_parts.specs.Ending.{Reports};
+ghost use Rattle.command_parts.specs.Outside.{outside, see};
 ghost use Rattle.seuss_top.specs.Arguments.{texts};
-ghost use Rattle.seuss_top.specs.Command.{Asm, Call, Dis, IsCommand, HaveNoForm};
+ghost use Rattle.seuss_top.specs.Command as spec;
 
 use crate::arguments::parse;
-use asm_commands::{Assembly, Disassembly, convert};
+use crate::no_form::NoForm;
+use asm_commands::{asm, dis};
 use call_command::call;
-use command_parts::{Plain, Refusal, report};
+use command_parts::{Given, Refusal, Shows, Status, finish};
 use edge_files::Files;
 use edge_streams::{Sink, Source};
 use std::alloc::Global;
@@ -30,46 +26,30 @@ pub enum Command<'a> {
     Dis,
 }
 
-/// Does the command that the arguments are.
-fn perform<F: Files, S: Source, K: Sink>(
+/// What became of a command.
+#[derive(Clone, Copy, Debug, PartialEq, Eq)]
+pub enum Plain {
+    /// It ended with this status.
+    Done(Status),
+}
+
+/// Does the command that the arguments are, or says that they are none.
+fn perform<'a, F: Files, S: Source, K: Sink, E: Sink>(
     alloc: Global,
     arguments: &[String],
-    files: &mut F,
-    source: &mut S,
-    sink: &mut K,
-) -> Result<(), Refusal>
-    ensures no_form { (result ≡ Err Refusal.Arguments) ↔ HaveNoForm (texts arguments.now) }
-    ensures call { (image : List ℕ) → IsCommand (texts arguments.now) (Call image)
-        → CallDoes (outside
-        (seen (F.contents files.old) (F.contents files.new) (F.faults files.old)
-        (F.faults files.new))
-        (seen (S.remaining source.old) (S.remaining source.new) (S.faults source.old)
-        (S.faults source.new))
-        (seen (K.contents sink.old) (K.contents sink.new) (K.faults sink.old)
-        (K.faults sink.new))) image result }
-    ensures asm { IsCommand (texts arguments.now) Asm → ConversionDoes Assembles
-        (seen (S.remaining source.old) (S.remaining source.new) (S.faults source.old)
-        (S.faults source.new))
-        (seen (K.contents sink.old) (K.contents sink.new) (K.faults sink.old)
-        (K.faults sink.new)) result }
-    ensures dis { IsCommand (texts arguments.now) Dis → ConversionDoes Lists
-        (seen (S.remaining source.old) (S.remaining source.new) (S.faults source.old)
-        (S.faults source.new))
-        (seen (K.contents sink.old) (K.contents sink.new) (K.faults sink.old)
-        (K.faults sink.new)) result }
-    ensures keeps { Keeps (outside
-        (seen (F.contents files.old) (F.contents files.new) (F.faults files.old)
-        (F.faults files.new))
-        (seen (S.remaining source.old) (S.remaining source.new) (S.faults source.old)
-        (S.faults source.new))
-        (seen (K.contents sink.old) (K.contents sink.new) (K.faults sink.old)
-        (K.faults sink.new))) result }
+    given: &mut Given<'a, F, S, K, E>,
+) -> Status
+    ensures performs { spec.Performs (texts arguments.now)
+        (⟦<Given<'a, F, S, K, E> as Shows>⟧.outside given.old given.new) result }
+    ensures files { F.contents given.new.files.now ≡ F.contents given.old.files.now }
+    ensures same { ⟦<Given<'a, F, S, K, E> as Shows>⟧.names given.new
+        ≡ ⟦<Given<'a, F, S, K, E> as Shows>⟧.names given.old }
 {
     match parse(arguments) {
-        Some(Command::Call { image }) => call(alloc, image, files, source, sink),
-        Some(Command::Asm) => convert::<Assembly, S, K>(alloc, source, sink),
-        Some(Command::Dis) => convert::<Disassembly, S, K>(alloc, source, sink),
-        None => Err(Refusal::Arguments),
+        Some(Command::Call { image }) => call(alloc, image, given),
+        Some(Command::Asm) => asm(alloc, given),
+        Some(Command::Dis) => dis(alloc, given),
+        None => finish(given.errs, Err(Refusal::Own(NoForm))),
     }
 }
 
@@ -91,34 +71,17 @@ pub fn run_plain<F: Files, S: Source, K: Sink, E: Sink>(
     errs: &mut E,
 ) -> Plain
     // 1 comes exactly where the arguments are in no form, and says so.
-    ensures no_form { (result ≡ Plain.Done 1) ↔ HaveNoForm (texts arguments.now) }
-    ensures usage { result ≡ Plain.Done 1 → Reports (line_of Refusal.Arguments)
-        (seen (E.contents errs.old) (E.contents errs.new) (E.faults errs.old) (E.faults errs.new)) }
+    ensures no_form { (result ≡ Plain.Done 1) ↔ spec.HaveNoForm (texts arguments.now) }
+    ensures usage { result ≡ Plain.Done 1 → Reports spec.no_form_line
+        (see E.contents E.faults errs.old errs.new) }
 
     // What each command writes, and why it is refused.
-    ensures call { (image : List ℕ) → IsCommand (texts arguments.now) (Call image)
-        → CallEnds (outside
-        (seen (F.contents files.old) (F.contents files.new) (F.faults files.old)
-        (F.faults files.new))
-        (seen (S.remaining source.old) (S.remaining source.new) (S.faults source.old)
-        (S.faults source.new))
-        (seen (K.contents sink.old) (K.contents sink.new) (K.faults sink.old) (K.faults sink.new)))
-        (seen (E.contents errs.old) (E.contents errs.new) (E.faults errs.old)
-        (E.faults errs.new)) image result }
-    ensures asm { IsCommand (texts arguments.now) Asm → ConversionEnds Assembles
-        (seen (S.remaining source.old) (S.remaining source.new) (S.faults source.old)
-        (S.faults source.new))
-        (seen (K.contents sink.old) (K.contents sink.new) (K.faults sink.old)
-        (K.faults sink.new))
-        (seen (E.contents errs.old) (E.contents errs.new) (E.faults errs.old)
-        (E.faults errs.new)) result }
-    ensures dis { IsCommand (texts arguments.now) Dis → ConversionEnds Lists
-        (seen (S.remaining source.old) (S.remaining source.new) (S.faults source.old)
-        (S.faults source.new))
-        (seen (K.contents sink.old) (K.contents sink.new) (K.faults sink.old)
-        (K.faults sink.new))
-        (seen (E.contents errs.old) (E.contents errs.new) (E.faults errs.old)
-        (E.faults errs.new)) result }
+    ensures command { (command : spec.Command) → spec.IsCommand (texts arguments.now) command
+        → spec.EndsSo result (spec.CommandEnds command (outside
+        (see F.contents F.faults files.old files.new)
+        (see S.remaining S.faults source.old source.new)
+        (see K.contents K.faults sink.old sink.new)
+        (see E.contents E.faults errs.old errs.new))) }
 
     // Files hold what they held. At 1 and 6 nothing of the source was read; but at 0 and 5
     // nothing was written.
@@ -136,11 +99,7 @@ pub fn run_plain<F: Files, S: Source, K: Sink, E: Sink>(
         × (S.faults source.old ≤ S.faults source.new)
         × (K.faults sink.old ≤ K.faults sink.new) × (E.faults errs.old ≤ E.faults errs.new) }
 {
-    match perform(alloc, arguments, files, source, sink) {
-        Ok(()) => Plain::Done(0),
-        Err(refusal) => {
-            report(errs, &refusal);
-            Plain::Done(refusal.status())
-        }
-    }
+    let mut given = Given::over(files, source, sink, errs);
+    let status = perform(alloc, arguments, &mut given);
+    Plain::Done(status)
 }

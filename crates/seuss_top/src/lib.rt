@@ -3,6 +3,8 @@
 
 mod arguments;
 mod command;
+mod no_form;
 
-pub use command::{Command, run_plain};
-pub use command_parts::{Plain, Refusal, Status, report};
+pub use command::{Command, Plain, run_plain};
+pub use command_parts::{Refusal, Status, finish};
+pub use no_form::NoForm;
