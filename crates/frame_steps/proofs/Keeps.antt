@@ -120,7 +120,7 @@ module _ (n : ℕ) (slots id : ℕ) (me : Mine) where
       let inside = (kept.rule.agrees id v there).inside f r in
       let more = room_for_one n l (views_of s.views) kept.rule f inside in
       let rule = rule_set n m s.views id w
-          (gains_as (gives_up v f) f refl r few s kept there y more) in (
+      (gains_as (gives_up v f) f refl r few s kept there y more) in (
         w,
         keeps,
         tt,

@@ -48,7 +48,7 @@ module _ (n : ℕ) (m : Frames) (hs : List Holding) (id : ℕ) (h : Holding) whe
       → FrameRule n m (views_of (set (set hs id h) other k))
   rule_set_two other k rule =
       let e : views_of (set (set hs id h) other k)
-          ≡ set (set (views_of hs) id h.view) other k.view =
+      ≡ set (set (views_of hs) id h.view) other k.view =
       views_set (set hs id h) other k
       ∙ ap (λ (vs : List View). set vs other k.view) (views_set hs id h) in
       subst (λ (vs : List View). FrameRule n m vs) (sym e) rule
