@@ -1,12 +1,11 @@
 -- Links where one word of a table changed.
-use Rattle.std.proofs.Common.{◌≡◌, ℕ, zero, suc, ◌+◌, ◌<◌, ◌≤◌, ◌≢◌, Bool, true, false, not, ◌&&◌, eqb, if◌then◌else◌, List, [], ◌∷◌, length, refl, sym, ap, subst, ◌∙◌, ⊎_elim, arith, length-append}
-use Rattle.std.proofs.lemmas.Bool.{cases_eq, and_right, eq-eqb, ne_eqb, cond-true, cond-false}
-use Rattle.frame_model.specs.Words.{Frames, kind_at, names, target, links_in, links_below}
+use Rattle.std.proofs.Common.{◌≡◌, ℕ, zero, suc, ◌+◌, ◌<◌, ◌≤◌, ◌≢◌, Bool, true, false, eqb, if◌then◌else◌, List, [], ◌∷◌, length, refl, sym, ap, subst, ⊎_elim, arith, length-append}
+use Rattle.std.proofs.lemmas.Bool.{cases_eq, eq-eqb, ne_eqb, cond-true, cond-false}
+use Rattle.frame_model.specs.Words.{Frames, names, target, links_in, links_below}
 use Rattle.frame_model.specs.Views.{Has, one_if, times, less_one, targets}
-use Rattle.frame_model.proofs.Counts.{links_in_same, links_same, names_zero, names_true}
+use Rattle.frame_model.proofs.Counts.{links_in_same, links_same}
 pub use Rattle.frame_model.proofs.NameCounts.{targets_none, targets_one, link_times}
 use Rattle.frame_model.proofs.Parts.{times_less}
-use Rattle.frame_model.proofs.Reach.{times_here, times_else}
 use Rattle.frame_steps.specs.Counted.{less_by}
 
 if_length : (b : Bool) (p : ℕ × ℕ) → length (if b then p ∷ [] else []) ≡ one_if b
