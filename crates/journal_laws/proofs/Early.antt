@@ -28,8 +28,8 @@ use Rattle.journal_model.proofs.Sound.{Sound, reached_sound}
 use Rattle.journal_laws.specs.Rests.{used_in}
 use Rattle.journal_laws.proofs.Folding.{joined_one}
 use Rattle.journal_laws.proofs.Naming as naming
-use Rattle.journal_laws.proofs.Naming.{open_is, next_request}
-use Rattle.journal_laws.proofs.Numbers.{pushed_other, pushed_here, next_none}
+use Rattle.journal_laws.proofs.Naming.{IsOpenAt, open_is, next_request}
+use Rattle.journal_laws.proofs.Numbers.{pushed_other, pushed_here, next_none, changed_here}
 use Rattle.journal_laws.proofs.Ties.{given_cases, none_drawn}
 use Rattle.journal_model.specs.Reads.{earlier_given, number_or_zero}
 use Rattle.std.proofs.Common.{true}
@@ -435,3 +435,34 @@ pub place_then : (sizes : Extents) (es : List Event) (s t : State) (i c u : ℕ)
     place_at_end t i ≡ legal.place_of s c
 place_then sizes es s t i c u h g =
     place_so sizes s t i c u (reached_sound sizes es s h) (reached_tied sizes es s h) g
+
+-- # What a refusal fixes
+
+standing_entry : (z : Standing) (p : Option ℕ) (rs : List RequestState) (i : ℕ) →
+    (o : IsOpenAt rs i) → numbered (with_standing i z p rs) i ≡ Some (closing z p o.one)
+unfolding with_standing
+standing_entry z p rs i o = changed_here (closing z p) i rs o.one o.entry
+
+-- the line of a request that is closed stays, and its place is where its context stands
+abbrev ClosesAt : State → State → ℕ → Type 0
+ClosesAt s t i = (service_of t i ≡ service_of s i)
+    × (place_at_end t i ≡ legal.place_of_given s (legal.given_to s i))
+
+closes_at : (s : State) (i : ℕ) (z : Standing) → IsOpenAt s.requests i →
+    ClosesAt s (legal.after_standing s i z) i
+unfolding legal.after_standing service_of place_at_end
+closes_at s i z o =
+    let e = standing_entry z (legal.place_of_given s (legal.given_to s i)) s.requests i o in
+    (ap service_of_one e ∙ sym (ap service_of_one o.entry), ap place_at_end_of_one e)
+
+pub refuse_closes : (sizes : Extents) (s t : State) (i : ℕ) → after sizes s (Refuse i) ≡ Some t →
+    ClosesAt s t i
+refuse_closes sizes s t i h = let r = stood _ _ t h in
+    let P : State → Type 0 = λ x. ClosesAt s x i in
+    subst P r.1 (closes_at s i Refused (open_is s i (refuse_parts s i r.0).1))
+
+pub want_closes : (sizes : Extents) (s t : State) (i : ℕ) → after sizes s (Want i) ≡ Some t →
+    ClosesAt s t i
+want_closes sizes s t i h = let r = stood _ _ t h in
+    let P : State → Type 0 = λ x. ClosesAt s x i in
+    subst P r.1 (closes_at s i Wanted (open_is s i (want_parts s i r.0).1))

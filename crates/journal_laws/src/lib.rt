@@ -15,6 +15,6 @@ pub use lists::{a_full_list_loses_its_last, idle_contexts_are_keyed, layers_are_
 pub use names::{closed_requests_stay, events_leave_what_they_do_not_name};
 pub use states::{
     answers_fix_the_line, contexts_are_few, contexts_serve_in_order, earlier_requests_stay,
-    idle_contexts_are_listed, open_requests_are_served,
+    idle_contexts_are_listed, open_requests_are_served, refusals_fix_the_line,
 };
 pub use weights::sums_change_by_one_item;

@@ -5,10 +5,10 @@ ghost use Rattle.std.specs.Prelude.{length, true};
 ghost use Rattle.journal_model.specs.Extents.{Extents};
 ghost use Rattle.journal_model.specs.State.{State, numbered, contains};
 ghost use Rattle.journal_model.specs.Legal.{after, after_all, at_first, is_open, given_to};
-ghost use Rattle.journal_model.specs.Legal.{serves, answered_by, place_of};
+ghost use Rattle.journal_model.specs.Legal.{serves, answered_by, place_of, place_of_given};
 ghost use Rattle.journal_model.specs.Reads.{served, earlier, service_of, place_at_end, answer_from};
 ghost use Rattle.journal_model.specs.declared.event.Event.{Event};
-ghost use Rattle.journal_model.specs.declared.event.Event.TheVariants.{Answer};
+ghost use Rattle.journal_model.specs.declared.event.Event.TheVariants.{Answer, Refuse, Want};
 ghost use Rattle.journal_model.specs.declared.state.RequestState.{RequestState};
 ghost use Rattle.journal_model.specs.declared.state.ContextState.{ContextState};
 ghost use Rattle.journal_model.specs.declared.state.Duty.TheVariants.{Idle};
@@ -80,4 +80,15 @@ pub fn answers_fix_the_line()
     ensures earlier { (sizes : Extents) (events : List Event) (s t : State) (i c u : ℕ) →
         after_all sizes (at_first sizes) events ≡ Some s →
         after sizes s (Answer i c u) ≡ Some t → earlier t i ≡ served s c }
+{}
+
+/// A request that is refused or wanted keeps what its line says of its context; its place is where
+/// that stands, if it has one.
+pub fn refusals_fix_the_line()
+    ensures refused { (sizes : Extents) (s t : State) (i : ℕ) →
+        after sizes s (Refuse i) ≡ Some t → (service_of t i ≡ service_of s i)
+        × (place_at_end t i ≡ place_of_given s (given_to s i)) }
+    ensures wanted { (sizes : Extents) (s t : State) (i : ℕ) →
+        after sizes s (Want i) ≡ Some t → (service_of t i ≡ service_of s i)
+        × (place_at_end t i ≡ place_of_given s (given_to s i)) }
 {}
