@@ -1,6 +1,0 @@
-use Rattle.frame_words.specs.Holders.{view, IsOf}
-use Rattle.frame_cases.specs.Mids.{IsPlaced}
-use Rattle.frame_cases.proofs.tests.threads.plant.Given as goal
-
-abbrev pub invariant-loop-i : goal.invariant-loop-i
-invariant-loop-i l = IsPlaced l.i l.i (view l.h) × IsOf l.h l.t
