@@ -26,12 +26,14 @@ loop-at-preserved c =
 pub returns-then-owes_nothing : goal.returns-then-owes_nothing
 returns-then-owes_nothing c =
     sym (c.loop-at.invariant ∙ (judged_legal c.loop-at.journal.sizes c.loop-at.journal.state
-    c.loop-at.at c.args.events.now (omega arith) (sym c.owes_nothing.ensures ∙ c.if-owes_nothing.true)
+    c.loop-at.at c.args.events.now (omega arith)
+    (sym c.owes_nothing.ensures ∙ c.if-owes_nothing.true)
     ∙ ap Legal (sym c.totals.ensures)))
 
 pub returns : goal.returns
 returns c =
     let e : c.loop-at.at ≡ length c.args.events.now = omega arith in
     sym (c.loop-at.invariant ∙ (judged_owing c.loop-at.journal.sizes c.loop-at.journal.state
-    c.loop-at.at c.args.events.now (omega arith) (sym c.owes_nothing.ensures ∙ c.if-owes_nothing.false)
+    c.loop-at.at c.args.events.now (omega arith)
+    (sym c.owes_nothing.ensures ∙ c.if-owes_nothing.false)
     ∙ ap (λ n. Broken n) e))
