@@ -25,15 +25,15 @@ loop-at-preserved c =
 -- at the end nothing may be owed
 pub returns-then-owes_nothing : goal.returns-then-owes_nothing
 returns-then-owes_nothing c =
-    sym (c.loop-at.invariant ∙ (judged_legal c.loop-at.journal.sizes c.loop-at.journal.state
-    c.loop-at.at c.args.events.now (omega arith)
-    (sym c.owes_nothing.ensures ∙ c.if-owes_nothing.true)
+    let j = c.loop-at.journal in
+    sym (c.loop-at.invariant ∙ (judged_legal j.sizes j.state c.loop-at.at
+    c.args.events.now (omega arith) (sym c.owes_nothing.ensures ∙ c.if-owes_nothing.true)
     ∙ ap Legal (sym c.totals.ensures)))
 
 pub returns : goal.returns
 returns c =
+    let j = c.loop-at.journal in
     let e : c.loop-at.at ≡ length c.args.events.now = omega arith in
-    sym (c.loop-at.invariant ∙ (judged_owing c.loop-at.journal.sizes c.loop-at.journal.state
-    c.loop-at.at c.args.events.now (omega arith)
-    (sym c.owes_nothing.ensures ∙ c.if-owes_nothing.false)
+    sym (c.loop-at.invariant ∙ (judged_owing j.sizes j.state c.loop-at.at
+    c.args.events.now (omega arith) (sym c.owes_nothing.ensures ∙ c.if-owes_nothing.false)
     ∙ ap (λ n. Broken n) e))
