@@ -1,11 +1,13 @@
 //! The space.
 
 ghost use Rattle.std.specs.Prelude.{◌≡◌, IfOk};
-ghost use Rattle.space_api.specs.Flat.{flat_of};
+ghost use Rattle.machine_model.specs.Machine.{least_failing};
+ghost use Rattle.space_api.specs.Flat.{flat_of, is_writable};
 ghost use Rattle.plain_space.specs.Sound.{IsSound-prop};
 ghost use Rattle.plain_space.specs.Space.{IsSound, flat_in};
 
 use crate::pages::Pages;
+use crate::reads::Use;
 use crate::start_pages::copy_pages;
 use space_api::{Access, Held, Memory, Space, Start};
 use std::alloc::Global;
@@ -44,6 +46,13 @@ impl PlainSpace {
     {
         let pages = pages_of(alloc, start)?;
         Ok(PlainSpace { pages })
+    }
+
+    /// The least of `size` addresses from `at` on that may not be written.
+    pub fn first_unwritable(&self, at: u64, size: usize) -> Option<u64>
+        ensures { result ≡ least_failing (is_writable (flat self.now)) at size }
+    {
+        self.pages.least_failing(Use::Write, at, size)
     }
 }
 
