@@ -135,3 +135,17 @@ pub need-few : (takes : Bool) (flat : Flat) (at n : ℕ) → IsBelow flat
 need-few takes flat at n below passes short =
     few_need takes (frames_of flat.written) (frames_of (with_written at n flat.written))
     (write-few flat at n below passes short)
+
+first_at : (at : ℕ) → at < 2 ^ 64 → address at 0 ≡ at
+first_at at lt = omega arith
+
+-- such bytes end at or below the limit
+pub write-fits : (flat : Flat) (at n : ℕ) → IsBelow flat
+    → least_failing (is_writable flat) at n ≡ None → n ≤ packet_limit → at < 2 ^ 64 → 0 < n
+    → at + n ≤ 2 ^ 38
+write-fits flat at n below passes short word some =
+    let first = byte_below flat at n below passes short 0 some in
+    let last = byte_below flat at n below passes short (n - 1) (omega arith) in
+    let row = row_from at (n - 1) first (omega arith) in
+    let here = first_at at word in
+    omega arith
