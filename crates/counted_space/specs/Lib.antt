@@ -1,0 +1,4 @@
+pub mod CountedSpace
+pub mod Counted
+pub mod Marks
+pub mod Sound
