@@ -1,7 +1,7 @@
 //! A journal, read from its lines and judged.
 
 use crate::problem::Problem;
-use edge_io::Files;
+use edge_files::Files;
 use run_journal::{Event, FunctionStack, Judged, Sizes, judge, read_event};
 use std::alloc::{AllocError, Global};
 

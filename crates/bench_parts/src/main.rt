@@ -9,7 +9,7 @@ mod plan;
 mod problem;
 
 use crate::problem::Problem;
-use edge_io::StdFiles;
+use edge_files::StdFiles;
 use std::alloc::Global;
 use std::env::Env;
 use std::process::ExitCode;

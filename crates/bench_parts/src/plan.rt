@@ -1,7 +1,7 @@
 //! A plan, read from its text and the files of its images.
 
 use crate::problem::Problem;
-use edge_io::Files;
+use edge_files::Files;
 use plan_text::read_plan;
 use std::alloc::Global;
 

@@ -1,6 +1,6 @@
 //! Why a part wasn't measured.
 
-use edge_io::FileFault;
+use edge_files::FileFault;
 use machine_model::Memory;
 use std::alloc::AllocError;
 use std::io;

@@ -1,7 +1,8 @@
 //! Whole commands over files, a source and sinks in memory: the lines that come out, and
 //! each call that can fail.
 
-use edge_io::{MemFiles, MemSink, MemSource};
+use edge_files::MemFiles;
+use edge_streams::{MemSink, MemSource};
 use seuss_top::{Plain, Status, run_plain};
 use std::alloc::{AllocError, Global};
 use std::process::Abort;

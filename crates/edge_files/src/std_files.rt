@@ -1,14 +1,17 @@
 //! Files of the system.
 
-ghost use Rattle.std.specs.Prelude.{◌≡◌, ◌≤◌, None};
+ghost use Rattle.std.specs.Prelude.{◌≡◌, ◌<◌, ◌≤◌, length, vec_len, None};
+ghost use Rattle.std.specs.Prelude.{IfOk, IfSome, IsErr, IsErrOf};
 ghost use Rattle.edge_streams.specs.Faults.{Rises};
 
 use crate::files::{FileFault, Files, StoreFault};
 use edge_streams::{Failed, ReadFault, StdSource, one_more, read_all};
 use std::alloc::Global;
+use std::io::Read;
 use std::{fs, rt};
 
-/// The files that the runtime reaches. It doesn't tell their bytes.
+/// The files that the runtime reaches. It doesn't tell their bytes; those that it hands out are the
+/// ones that the opened file tells (`read_whole`).
 ///
 /// In `main` this is `StdFiles::new(&rt)`.
 #[derive(Drop)]
@@ -44,6 +47,26 @@ impl<'a, R: rt::Files> StdFiles<'a, R> {
     }
 }
 
+/// All bytes of a reader that has at most `limit` of them, where it tells them. It is split off so
+/// that the bytes of a file have a clause.
+///
+/// The errors are Failed, where a read failed; TooBig, where there are more; and Memory.
+fn read_whole<R: Read + Drop>(alloc: Global, reader: R, limit: u64) -> Result<Vec<u8>, FileFault>
+    ensures within { IfOk result (λ bytes. vec_len bytes ≤ limit) }
+    ensures bytes { IfOk result (λ bytes. IfSome (R.remaining reader) (λ left.
+        left ≡ bytes.items)) }
+    ensures too_big { IsErrOf result FileFault.TooBig → IfSome (R.remaining reader) (λ left.
+        limit < length left) }
+    ensures refused { IfSome (R.remaining reader) (λ left. limit < length left → IsErr result) }
+{
+    match read_all(alloc, &mut StdSource::new(reader), limit as usize) {
+        Ok(whole) => Ok(whole),
+        Err(ReadFault::Failed) => Err(FileFault::Failed),
+        Err(ReadFault::TooLong) => Err(FileFault::TooBig),
+        Err(ReadFault::Memory) => Err(FileFault::Memory),
+    }
+}
+
 impl<'a, R: rt::Files> Files for StdFiles<'a, R> {
     ghost faults = { λ files. files.faults };
 
@@ -54,11 +77,11 @@ impl<'a, R: rt::Files> Files for StdFiles<'a, R> {
         let Ok(file) = fs::open(self.runtime, name) else {
             return Err(FileFault::from(self.fail()));
         };
-        match read_all(alloc, &mut StdSource::new(file), limit as usize) {
+        match read_whole(alloc, file, limit) {
             Ok(bytes) => Ok(bytes),
-            Err(ReadFault::Failed) => Err(FileFault::from(self.fail())),
-            Err(ReadFault::TooLong) => Err(FileFault::TooBig),
-            Err(ReadFault::Memory) => Err(FileFault::Memory),
+            Err(FileFault::Failed) => Err(FileFault::from(self.fail())),
+            Err(FileFault::TooBig) => Err(FileFault::TooBig),
+            Err(FileFault::Memory) => Err(FileFault::Memory),
         }
     }
     /// Creates the file, or empties it, and writes the bytes. An error is an edge fault.

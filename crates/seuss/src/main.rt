@@ -4,7 +4,8 @@
 
 ghost use Rattle.std.specs.Prelude.{◌≡◌, drop};
 
-use edge_io::{StdFiles, StdSink, StdSource};
+use edge_files::StdFiles;
+use edge_streams::{StdSink, StdSource};
 use seuss_top::{NoForm, Plain, Refusal, finish, run_plain};
 use std::alloc::Global;
 use std::env::Env;

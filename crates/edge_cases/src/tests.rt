@@ -1,6 +1,7 @@
 //! Connections and doors, in memory and over the loopback.
 
-use super::*;
+use edge_links::{Door, Link, MemDoor, MemLink, StdDoor};
+use edge_streams::Failed;
 use std::alloc::{AllocError, Global};
 use std::io::{Read, Write};
 use std::net::TcpStream;
