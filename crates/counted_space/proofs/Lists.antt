@@ -12,7 +12,8 @@ use Rattle.machine_model.specs.Machine.{with_written}
 use Rattle.space_api.specs.Frames.{some_written, frames_of}
 use Rattle.space_laws.specs.Growth.{with_page, with_pages, none_yet, page_need, pages_across}
 use Rattle.space_laws.proofs.Rows.{row-none, row-more, write-row}
-use Rattle.space_laws.proofs.Spans.{bool_by, some-by, some-from, frames-more, frames-same, page-there}
+use Rattle.space_laws.proofs.Spans.{bool_by, some-by, some-from}
+use Rattle.space_laws.proofs.Spans.{frames-more, frames-same, page-there}
 use Rattle.counted_space.specs.Marks.{is_marked, has_between}
 
 -- ---- lists
@@ -218,7 +219,8 @@ pub marks-kept : (set now : ℕ → Bool) (first page p : ℕ) → first ≤ pag
     → ((q : ℕ) → now q ≡ with_pages first (page - first) set q)
     → now p ≡ with_pages first (page + 1 - first) set p
 marks-kept set now first page p le there before =
-    let old = or_left (set page) (nat_le first page && nat_lt page (first + (page - first))) there in
+    let old = or_left (set page)
+    (nat_le first page && nat_lt page (first + (page - first))) there in
     sym (page-there now page (before page ∙ old) p)
     ∙ marks-next set now first page p le before
 

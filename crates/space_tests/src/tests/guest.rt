@@ -23,9 +23,9 @@ const RX: u32 = 5;
 
 const RW: u32 = 6;
 
-/// The program: stores of -9, of 1 byte to page 511, of 2 to page 512, of 4 to page 513, and of 8 to
-/// the pages on both sides of 2^30; a net read of a packet of 4 bytes to pages 1022 and 1023, which it
-/// writes again from there; the end with code 0.
+/// The program: stores of -9, of 1 byte to page 511, of 2 to page 512, of 4 to page 513, and of 8
+/// to the pages on both sides of 2^30; a net read of a packet of 4 bytes to pages 1022 and 1023,
+/// which it writes again from there; the end with code 0.
 const WORDS: &str = "ff700293 00200437 fe540fa3 00541023 002014b7 0054a023 400004b7 fe54be23 \
                      003ff537 ffe50513 00400593 00700893 00000073 003ff537 ffe50513 00600893 \
                      00000073 00800893 00000073";
