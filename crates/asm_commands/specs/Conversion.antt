@@ -12,13 +12,14 @@ use Rattle.command_parts.specs.declared.refusal.Refusal.{Refusal}
 use Rattle.command_parts.specs.declared.refusal.Refusal.TheVariants.{Own, Size, Read, Write}
 use Rattle.command_parts.specs.declared.refusal.Refusal.TheVariants.{File, Memory}
 use Rattle.edge_streams.specs.Content.{Adds}
+use Rattle.image_model.specs.Files.{file_limit}
 
 abbrev pub Makes : Type 1
 Makes = List ℕ → Result (List ℕ) AsmCause → Type 0
 
 -- a source is read to its end for at most so many bytes
 abbrev pub source_limit : ℕ
-source_limit = 16777216
+source_limit = file_limit
 
 -- this comes of the source's bytes
 pub record IsMade (makes : Makes) (source : Stream) (made : Result (List ℕ) AsmCause)

@@ -14,13 +14,14 @@ use crate::disassembler::Disassembly;
 use command_parts::{Given, Refusal, Shows, Status, finish, read_source, write_output};
 use edge_files::Files;
 use edge_streams::{Sink, Source};
+use image_model::FILE_LIMIT;
 use std::alloc::Global;
 
 /// Why a conversion is refused.
 pub type AsmRefusal = Refusal<AsmCause>;
 
 /// The most bytes of a source.
-const SOURCE_LIMIT: usize = 16_777_216;
+const SOURCE_LIMIT: usize = FILE_LIMIT as usize;
 
 /// What comes of a source's bytes.
 pub trait Conversion {

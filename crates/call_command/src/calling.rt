@@ -18,6 +18,7 @@ use command_parts::{
 use edge_files::{FileFault, Files};
 use edge_streams::{Sink, Source};
 use elf64::{ElfFault, Image, ImageFault};
+use image_model::FILE_LIMIT;
 use machine_model::{PACKET_LIMIT, Packet};
 use std::alloc::Global;
 use std::marker::Brand;
@@ -25,9 +26,6 @@ use std::sync::ledger::Blank;
 
 /// Why `call` is refused: its own cause is a fault of the image.
 type CallRefusal = Refusal<ImageFault>;
-
-/// The most bytes of a file that is read.
-const FILE_LIMIT: u64 = 16_777_216;
 
 /// The image of the file of a name.
 fn read_program<F: Files>(alloc: Global, files: &mut F, name: &str) -> Result<Image, CallRefusal>

@@ -12,8 +12,8 @@ use Rattle.machine_model.specs.Machine.{with_written}
 use Rattle.space_api.specs.Frames.{some_written, frames_of}
 use Rattle.space_laws.specs.Growth.{with_page, with_pages, none_yet, page_need, pages_across}
 use Rattle.space_laws.proofs.Rows.{row-none, row-more, write-row}
-use Rattle.space_laws.proofs.Spans.{bool_by, some-by, some-from, frames-more, frames-same}
-use Rattle.space_laws.proofs.Spans.{page-there}
+use Rattle.space_laws.proofs.Spans.{bool_by, some-by, some-from}
+use Rattle.space_laws.proofs.Spans.{frames-more, frames-same, page-there}
 use Rattle.counted_space.specs.Marks.{is_marked, has_between}
 
 -- ---- lists

@@ -1,6 +1,6 @@
 -- What stays of a counted space, and what a write makes of it.
-use Rattle.std.proofs.Common.{◌≡◌, ℕ, ◌+◌, ◌≤◌, ◌^◌, ◌<◌, Bool, false, List, length, refl, sym, ap}
-use Rattle.std.proofs.Common.{◌∙◌, arith}
+use Rattle.std.proofs.Common.{◌≡◌, ℕ, ◌+◌, ◌≤◌, ◌^◌, ◌<◌, Bool}
+use Rattle.std.proofs.Common.{false, List, length, refl, sym, ap, ◌∙◌, arith}
 use Rattle.std.proofs.Common.{true, [], ◌∷◌, ◌&&◌, ◌-◌, Result, Ok, Err, subst}
 use Rattle.std.specs.Prelude.{nat_le, nat_lt, OnOk, OnErr, is_err, Option, None, ◌↔◌}
 use Rattle.std.proofs.lemmas.Bool.Decides.{nat_tests}
