@@ -101,7 +101,9 @@ module _ (o : Outside) (name : List ℕ) where
       → (TellsNoImage o.files.before name → IsKept o.source)
       → Reports (line_of fault_line refusal) o.errs → CallEnds o name (call_status refusal)
   refused_ends refusal h untouched reported = record {
-    done = λ e. let some = some_status fault_status own_is refusal in absurd (omega (arith, e, some));
+    done = λ e.
+        let some = some_status fault_status own_is refusal in
+        absurd (omega (arith, e, some));
     refused = inr (refusal, refl, h, reported);
     untouched = untouched;
     missing = missing_ends refusal h;

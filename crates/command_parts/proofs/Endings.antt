@@ -30,8 +30,8 @@ module _ {C : Type 0} (own : C → ℕ) (own_is : (cause : C) → IsOwnStatus (o
   of_file File e = refl
   of_file Memory e = absurd (omega (arith, e))
 
-  another : {T : Type 0} (refusal other : Refusal C) (status : ℕ) → status ≡ status_of own refusal
-      → (status ≡ status_of own other → ⊥)
+  another : {T : Type 0} (refusal other : Refusal C) (status : ℕ)
+      → status ≡ status_of own refusal → (status ≡ status_of own other → ⊥)
       → (◌≡◌ {A = Result T (Refusal C)} (Err refusal) (Err other)) → ⊥
   another refusal other status is differs same =
       let r : refusal ≡ other = cc in

@@ -54,10 +54,7 @@ outside files source sink errs =
 abbrev pub reporting : Outside → Stream → Outside
 reporting o errs = outside o.files o.source o.sink errs
 
--- files of which nothing is said, and a sink of which nothing is
-abbrev pub no_files : Seen Contents
-no_files = seen None None 0 0
-
+-- a sink of which nothing is said
 abbrev pub no_sink : Stream
 no_sink = seen None None 0 0
 

@@ -19,8 +19,7 @@ returns-clause-ends g c =
     (see K.contents K.faults given.sink.now new.sink)
     (see E.contents E.faults given.errs.now c.finish.new.errs) in
     ends Assembles assembles_once o c.convert-outcome.result c.finish.result
-    c.convert-outcome.ensures.does
-    c.finish.ensures.ended
+    c.convert-outcome.ensures.does c.finish.ensures.ended
 
 pub returns-clause-leaves : goal.returns-clause-leaves
 returns-clause-leaves g c =
