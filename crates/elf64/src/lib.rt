@@ -14,4 +14,7 @@ mod segments;
 pub use elf_laws::{entry_is_sound, memory_is_no_fault, segments_are_sound};
 pub use fault::{ElfFault, ImageFault};
 pub use image_model::{Bytes, Image, Segment, Segments};
-pub use read::read_image;
+pub use loads::Loads;
+pub use program_header::ProgramHeader;
+pub use read::{check_image, read_image};
+pub use segments::file_bytes;

@@ -2,11 +2,11 @@
 
 ghost use Rattle.std.specs.Prelude.{◌≡◌, ◌≢◌, ◌≤◌, false, length, IfErr, IfOk, IsOk, OnOk};
 ghost use Rattle.std.specs.Result.{result_err};
-ghost use Rattle.elf64.specs.Elf.{elf, checks, first_fault, has_wrong_ranges};
+ghost use Rattle.elf64.specs.Elf.{elf, checks, first_fault, has_wrong_ranges, image_of};
 ghost use Rattle.elf64.specs.Fields.{file_header_size};
 ghost use Rattle.elf64.specs.Segments.{loads};
 
-use crate::fault::ElfFault;
+use crate::fault::{ElfFault, ImageFault};
 use crate::file_header::{check_file_header, e_entry};
 use crate::loads::Loads;
 use crate::program_table::read_loads;
@@ -44,6 +44,21 @@ pub fn read_image(alloc: Global, bytes: &[u8]) -> Result<Image, ElfFault>
         entry: e_entry(bytes),
         segments: Segments::from_vec(segments),
     })
+}
+
+/// The PT_LOADs of a file without fault, in file order, or the file's first fault, as `read_image`
+/// tells them. The file's image is then `image_of bytes`, and nothing of it is copied: the bytes of
+/// a segment are had in their place by `file_bytes`.
+pub fn check_image(bytes: &[u8]) -> Result<Loads, ImageFault>
+    ensures image { OnOk result (elf bytes.now ≡ Ok (image_of bytes.now)) }
+    ensures loads { IfOk result (λ found. found ≡ loads bytes.now) }
+    ensures ranges { OnOk result (has_wrong_ranges bytes.now ≡ false) }
+    ensures fault { IfErr result (λ fault. elf bytes.now ≡ Err fault.fault) }
+{
+    match check(bytes) {
+        Ok(loads) => Ok(loads),
+        Err(fault) => Err(ImageFault { fault }),
+    }
 }
 
 /// The PT_LOADs of a file without fault, or its first fault, as `read_image` tells them.

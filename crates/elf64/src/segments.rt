@@ -148,8 +148,8 @@ fn segment(alloc: Global, bytes: &[u8], load: &ProgramHeader) -> Result<Segment,
     })
 }
 
-/// The file bytes of a PT_LOAD.
-fn file_bytes<'a>(bytes: &'a [u8], load: &ProgramHeader) -> &'a [u8]
+/// The file bytes of a PT_LOAD, in their place.
+pub fn file_bytes<'a>(bytes: &'a [u8], load: &ProgramHeader) -> &'a [u8]
     requires { has_wrong_range (length bytes.now) load.now ≡ false }
     ensures { result.now ≡ take load.now.p_filesz (drop load.now.p_offset bytes.now) }
 {
