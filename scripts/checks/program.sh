@@ -40,6 +40,9 @@ into_closed_pipe() {
     return "$(cat "$work/status")"
 }
 
+# Runs the words with 16 MiB of address space for the program and all that it takes.
+with_little_memory() { (ulimit -v 16384 && "$@"); }
+
 # Runs the words with as little of an environment as there can be.
 without_environment() { env -i "$@"; }
 
@@ -237,6 +240,24 @@ check_counts() {
     answers "a sum" 'ok 19 05 -\n' "$program" call count.elf
 }
 
+# Want of memory: for the bytes of a file, which is as long as one may be, and in the run of a
+# program that stores to each page of its memory in turn, from 0x100000 on.
+check_memory() {
+    source_of '\001\002' 1
+    cp -- "$folder/echo.elf" "$folder/long.elf" && truncate -s 16777216 "$folder/long.elf"
+    answers "the longest file" 'halt:0 12 0102 -\n' "$program" call long.elf
+    refuses 7 memory "the longest file and little memory" \
+        with_little_memory "$program" call long.elf
+    answers "little memory that is enough" 'halt:0 12 0102 -\n' \
+        with_little_memory "$program" call echo.elf
+    make_image stores.elf 7 0 001002b7 00001337 0002b023 006282b3 ff9ff06f
+    # (the size of its segment in memory stands at 104)
+    printf '\000\000\000\260\077' |
+        dd of="$folder/stores.elf" bs=1 seek=104 conv=notrunc 2>"$work/copied"
+    refuses 7 memory "a run that uses up its memory" \
+        with_little_memory "$program" call stores.elf
+}
+
 make_images() {
     local name
     folder=$work/images
@@ -254,4 +275,5 @@ check_runs
 check_words
 check_images
 check_streams
+check_memory
 check_order

@@ -1,4 +1,5 @@
 use super::*;
+use std::io::{Error, ErrorKind, Read, Write};
 use std::test::Fail;
 use std::{fs, io};
 
@@ -58,4 +59,135 @@ fn a_fault_says_what_happened(rt: HostRuntime) -> Result<(), Fail> {
         "a read failed; there are more bytes than the limit"
     );
     Ok(())
+}
+
+/// A stream whose first calls fail so, or take and give nothing where no kind is named. Later ones
+/// fill what they are given, and take all.
+#[derive(Drop)]
+struct Faulty {
+    kind: Option<ErrorKind>,
+    times: u32,
+}
+
+impl Faulty {
+    /// How much of so many bytes a call takes or gives.
+    fn turn(&mut self, size: usize) -> io::Result<usize> {
+        if self.times == 0 {
+            return Ok(size);
+        }
+        self.times -= 1;
+        match self.kind {
+            Some(kind) => Err(Error::from(kind)),
+            None => Ok(0),
+        }
+    }
+}
+
+impl Read for Faulty {
+    fn read(&mut self, buf: &mut [u8]) -> io::Result<usize> {
+        let size = self.turn(buf.len())?;
+        Ok(size.min(buf.len()))
+    }
+}
+
+impl Write for Faulty {
+    fn write(&mut self, buf: &[u8]) -> io::Result<usize> {
+        let size = self.turn(buf.len())?;
+        Ok(size.min(buf.len()))
+    }
+
+    fn flush(&mut self) -> io::Result<()> {
+        Ok(())
+    }
+}
+
+/// How the first calls fail and how often, and what two reads and two writes of 6 bytes answer
+/// then; a call that fails answers none. One call is made 17 times at most.
+const FAULTS: [(
+    Option<ErrorKind>,
+    u32,
+    [Option<usize>; 2],
+    [Option<usize>; 2],
+); 14] = [
+    (Some(ErrorKind::Interrupted), 0, [Some(6); 2], [Some(6); 2]),
+    (Some(ErrorKind::Interrupted), 16, [Some(6); 2], [Some(6); 2]),
+    (
+        Some(ErrorKind::Interrupted),
+        17,
+        [None, Some(6)],
+        [None, Some(6)],
+    ),
+    (
+        Some(ErrorKind::Interrupted),
+        33,
+        [None, Some(6)],
+        [None, Some(6)],
+    ),
+    (Some(ErrorKind::Interrupted), 34, [None; 2], [None; 2]),
+    // Any other error fails at once.
+    (Some(ErrorKind::Other), 1, [None, Some(6)], [None, Some(6)]),
+    (
+        Some(ErrorKind::WouldBlock),
+        1,
+        [None, Some(6)],
+        [None, Some(6)],
+    ),
+    (
+        Some(ErrorKind::TimedOut),
+        1,
+        [None, Some(6)],
+        [None, Some(6)],
+    ),
+    (
+        Some(ErrorKind::WriteZero),
+        1,
+        [None, Some(6)],
+        [None, Some(6)],
+    ),
+    (
+        Some(ErrorKind::BrokenPipe),
+        1,
+        [None, Some(6)],
+        [None, Some(6)],
+    ),
+    (
+        Some(ErrorKind::UnexpectedEof),
+        1,
+        [None, Some(6)],
+        [None, Some(6)],
+    ),
+    (
+        Some(ErrorKind::OutOfMemory),
+        1,
+        [None, Some(6)],
+        [None, Some(6)],
+    ),
+    // Nothing read is the end of the input, and nothing written a fault.
+    (None, 1, [Some(0), Some(6)], [None, Some(6)]),
+    (None, 2, [Some(0); 2], [None; 2]),
+];
+
+#[test]
+fn only_what_is_interrupted_is_made_again(rt: HostRuntime) {
+    for (kind, times, reads, writes) in FAULTS {
+        let mut source = StdSource::new(Faulty { kind, times });
+        let mut sink = StdSink::new(Faulty { kind, times });
+        for n in 0..2 {
+            assert_eq!(rt; source.read(&mut [0; 6]).ok(), reads[n], "{kind:?} {times}");
+            assert_eq!(rt; sink.write(TEXT).ok(), writes[n], "{kind:?} {times}");
+        }
+        let failed = writes.iter().filter(|write| write.is_none()).count();
+        assert_eq!(rt; sink.faults(), failed as u64, "{kind:?} {times}");
+    }
+}
+
+/// A write of no bytes takes none, and is no fault.
+#[test]
+fn no_bytes_are_written(rt: HostRuntime) {
+    let mut sink = StdSink::new(Faulty {
+        kind: None,
+        times: 1,
+    });
+    assert_eq!(rt; sink.write(&[]), Ok(0));
+    assert_eq!(rt; sink.faults(), 0);
 }

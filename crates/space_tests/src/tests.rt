@@ -3,6 +3,7 @@
 ghost use Rattle.std.specs.Prelude.{◌≡◌, ◌<◌};
 
 mod guest;
+mod many;
 mod runs;
 
 use counted_space::CountedSpace;
