@@ -1,1 +1,2 @@
 pub mod Lru
+mod Absent

@@ -1,6 +1,9 @@
 //! Each call once, and what a list loses.
 
+ghost use Rattle.std.specs.Prelude.{◌≡◌};
+
 use super::*;
+use machine_model::Memory;
 use std::test::Fail;
 
 #[test]
@@ -51,6 +54,77 @@ fn a_list_without_room_is_full_and_empty(rt: HostRuntime) -> Result<(), Fail> {
     assert_eq!(rt;
         (layers.is_full(), layers.last(), layers.find(0)),
         (true, None, None)
+    );
+    Ok(())
+}
+
+/// Parks a context in a list with room for 256, where it isn't yet. Answers what was lost.
+#[tactic(auto, using(crate::proofs::Absent::still_absent))]
+fn parked(list: &mut IdleList, id: u32) -> Result<Option<(u32, usize)>, Memory>
+    requires room { list.old.room ≡ 256 }
+    ensures room { list.new.room ≡ 256 }
+{
+    match list.remove(id) {
+        Some(slot) => Ok(Some((id, slot))),
+        None => list.park(id, 3, id as usize),
+    }
+}
+
+/// Keeps a layer in a list with room for 256, where it isn't yet. Answers what was lost.
+fn kept(list: &mut LayerList, k: u16) -> Result<Option<(u16, usize)>, Memory>
+    requires room { list.old.room ≡ 256 }
+    ensures room { list.new.room ≡ 256 }
+{
+    match list.find(k) {
+        Some(slot) => Ok(Some((k, slot))),
+        None => list.keep(k, k as usize),
+    }
+}
+
+/// Whether each of 600 contexts, from the 257th on, pushes out the first that is left.
+fn contexts_push_out(list: &mut IdleList) -> Result<bool, Memory>
+    requires room { list.old.room ≡ 256 }
+{
+    let mut right = true;
+    for id in 0..600u32 {
+        let first = id.saturating_sub(256);
+        let lost = (id >= 256).then_some((first, first as usize));
+        right = parked(list, id)? == lost && right;
+    }
+    Ok(right)
+}
+
+/// Whether each of 600 layers, from the 257th on, pushes out the first that is left.
+fn layers_push_out(list: &mut LayerList) -> Result<bool, Memory>
+    requires room { list.old.room ≡ 256 }
+{
+    let mut right = true;
+    for k in 0..600u16 {
+        let first = k.saturating_sub(256);
+        let lost = (k >= 256).then_some((first, first as usize));
+        right = kept(list, k)? == lost && right;
+    }
+    Ok(right)
+}
+
+#[test]
+fn the_257th_pushes_out_the_first(rt: HostRuntime) -> Result<(), Fail> {
+    let mut idle = IdleList::open(rt.alloc(), 256)?;
+    assert!(rt; contexts_push_out(&mut idle)?);
+    assert_eq!(rt;
+        (idle.is_full(), idle.last(), idle.find(3)),
+        (true, Some(344), Some(599))
+    );
+    let mut layers = LayerList::open(rt.alloc(), 256)?;
+    assert!(rt; layers_push_out(&mut layers)?);
+    assert_eq!(rt;
+        (
+            layers.is_full(),
+            layers.last(),
+            layers.find(343),
+            layers.find(344)
+        ),
+        (true, Some(344), None, Some(344))
     );
     Ok(())
 }

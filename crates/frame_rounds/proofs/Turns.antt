@@ -8,7 +8,8 @@ use Rattle.frame_model.proofs.Opening.{blank_word}
 use Rattle.frame_words.specs.Steps.{put, dressed, IsClear, pile_of, kept_of, given_of, IsThere, joined}
 use Rattle.frame_steps.specs.declared.lost.Lost.TheVariants.{Owned}
 use Rattle.frame_steps.specs.Counted.{entered, MayStand, HasRoom, gives_up, gained, lost}
-use Rattle.frame_rounds.specs.Rows.{put_view, dressed_view, referred_view, third, cut_view}
+use Rattle.frame_rounds.specs.Rows.{put_at, dressed_view, referred_view, third}
+use Rattle.frame_rounds.specs.Rows.{filled_view, cut_view}
 
 abbrev pub HasFew : View → Type 0
 HasFew v = length v.references < 16
@@ -23,13 +24,17 @@ pub first_owns : Has 0 (first_view 4).owned
 unfolding numbers_below
 first_owns = inr (inr (inr (inl refl)))
 
-pub put_owns : Has 0 put_view.owned
-unfolding numbers_below
-put_owns = inr (inr (inr (inl refl)))
+pub put_reaches : (x : ℕ) → Has 0 (reach (put_at x))
+unfolding numbers_below within
+put_reaches x = inr (inr (inr (inl refl)))
 
-pub put_again : put put_view 0 7 99 ≡ put_view
+pub put_owns : (x : ℕ) → Has 0 (put_at x).owned
+unfolding numbers_below
+put_owns x = inr (inr (inr (inl refl)))
+
+pub put_again : (x y : ℕ) → put (put_at x) 0 7 y ≡ put_at y
 unfolding blank_words
-put_again = refl
+put_again x y = refl
 
 -- ---- dress
 
@@ -51,6 +56,10 @@ pub leaf_loose : IsLoose (dressed dressed_view 1 Leaf) 1
 unfolding numbers_below blank_words
 leaf_loose = record { owned = inr (inr (inl refl)); unreferred = λ r. r; unnamed = λ r. r }
 
+pub leaf_reaches : Has 1 (reach (dressed dressed_view 1 Leaf))
+unfolding numbers_below within
+leaf_reaches = inr (inr (inl refl))
+
 pub leaf_clear : IsClear (dressed dressed_view 1 Leaf) 1
 leaf_clear i lt = blank_word i
 
@@ -66,6 +75,10 @@ gained_refers = inl refl
 pub gained_owns : Has 0 (gained (first_view 4) 0).owned
 unfolding numbers_below gained gives_up
 gained_owns = inr (inr (inr (inl refl)))
+
+pub gained_reaches : Has 0 (reach (gained (first_view 4) 0))
+unfolding numbers_below within gained gives_up
+gained_reaches = inr (inr (inr (inl refl)))
 
 pub gained_again : lost Owned (gained (first_view 4) 0) 0 ≡ first_view 4
 unfolding numbers_below gained gives_up lost
@@ -113,6 +126,10 @@ pub named_owns : Has 1 (entered referred_view 1 0 471).owned
 unfolding numbers_below entered gained gives_up blank_words
 named_owns = inr (inr (inl refl))
 
+pub named_reaches : Has 1 (reach (entered referred_view 1 0 471))
+unfolding numbers_below within entered gained gives_up blank_words
+named_reaches = inr (inr (inl refl))
+
 pub named_table : 0 < kind_number (kind_of (entered referred_view 1 0 471) 1)
 unfolding entered gained
 named_table = omega arith
@@ -127,14 +144,25 @@ entered_again = refl
 
 -- ---- cut
 
-pub first_third : IsThere third (first_view 4)
+pub third_owns : Has 3 (first_view 4).owned
+unfolding numbers_below
+third_owns = inl refl
+
+pub given_reaches : Has 3 (reach (given_of third cut_view))
+unfolding joined kept_of given_of pile_of numbers_below within
+given_reaches = inl refl
+
+pub first_third : IsThere third filled_view
 unfolding IsThere pile_of numbers_below
 first_third f h = ⊎_elim
-    (λ (e : f ≡ 3). (record { owned = inl e; unreferred = λ r. r; unnamed = λ r. r }, refl))
+    (λ (e : f ≡ 3). (
+      record { owned = inl e; unreferred = λ r. r; unnamed = λ r. r },
+      ap (λ (x : ℕ). kind_of filled_view x) e,
+    ))
     (λ none. absurd none)
     h
 
-pub first_few : length (kept_of third (first_view 4)).references + length (given_of third (first_view 4)).references ≤ 16
+pub first_few : length (kept_of third filled_view).references + length (given_of third filled_view).references ≤ 16
 unfolding kept_of given_of
 first_few = omega arith
 

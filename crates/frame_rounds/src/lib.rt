@@ -9,3 +9,6 @@ mod steps;
 pub use frame_words::MOST_FRAMES;
 pub use kinds::StepKind;
 pub use rounds::{opened, played};
+
+#[cfg(test)]
+mod tests;

@@ -1,4 +1,4 @@
-//! So many rounds of a kind of step, on a table of four frames.
+//! So many rounds of a kind of step, on a table of four frames, and the sum of what they saw.
 
 ghost use Rattle.std.specs.Prelude.{◌≡◌, ◌<◌, ◌≤◌};
 ghost use Rattle.frame_model.specs.Rule.{most_frames};
@@ -14,76 +14,87 @@ fn peeks(t: &FrameTable, h: &mut Holder, rounds: u64) -> u64
     requires of { IsOf h.old t.now }
     requires view { view h.old ≡ first_view 4 }
 {
-    let mut seen = 0;
+    steps::first_put(t, h);
+    let mut seen: u64 = 0;
     for _ in 0..rounds {
-        seen ^= steps::peek_round(t, h);
+        seen = seen.wrapping_add(steps::peek_round(t, h));
     }
     seen
 }
 
-fn puts(t: &FrameTable, h: &mut Holder, rounds: u64)
+fn puts(t: &FrameTable, h: &mut Holder, rounds: u64) -> u64
     requires of { IsOf h.old t.now }
     requires view { view h.old ≡ first_view 4 }
 {
     steps::first_put(t, h);
-    for _ in 0..rounds {
-        steps::put_round(t, h);
+    let mut seen: u64 = 0;
+    for round in 0..rounds {
+        seen = seen.wrapping_add(steps::put_round(t, h, round));
     }
+    seen
 }
 
-fn dresses(t: &FrameTable, h: &mut Holder, rounds: u64)
+fn dresses(t: &FrameTable, h: &mut Holder, rounds: u64) -> u64
     requires of { IsOf h.old t.now }
     requires view { view h.old ≡ first_view 4 }
 {
     steps::first_dress(t, h);
+    let mut seen: u64 = 0;
     for _ in 0..rounds {
-        steps::dress_round(t, h);
+        seen = seen.wrapping_add(steps::dress_round(t, h));
     }
+    seen
 }
 
-fn gains(t: &FrameTable, h: &mut Holder, rounds: u64)
+fn gains(t: &FrameTable, h: &mut Holder, rounds: u64) -> u64
     requires of { IsOf h.old t.now }
     requires view { view h.old ≡ first_view 4 }
 {
+    let mut seen: u64 = 0;
     for _ in 0..rounds {
-        steps::gain_round(t, h);
+        seen = seen.wrapping_add(steps::gain_round(t, h));
     }
+    seen
 }
 
-fn entries(t: &FrameTable, h: &mut Holder, rounds: u64)
+fn entries(t: &FrameTable, h: &mut Holder, rounds: u64) -> u64
     requires of { IsOf h.old t.now }
     requires view { view h.old ≡ first_view 4 }
 {
     steps::first_entry(t, h);
+    let mut seen: u64 = 0;
     for _ in 0..rounds {
-        steps::entry_round(t, h);
+        seen = seen.wrapping_add(steps::entry_round(t, h));
     }
+    seen
 }
 
-fn cuts(t: &FrameTable, h: &mut Holder, rounds: u64)
+fn cuts(t: &FrameTable, h: &mut Holder, rounds: u64) -> u64
     requires of { IsOf h.old t.now }
     requires view { view h.old ≡ first_view 4 }
 {
+    steps::first_fill(t, h);
     steps::first_cut(t, h);
+    let mut seen: u64 = 0;
     for _ in 0..rounds {
-        steps::cut_round(t, h);
+        seen = seen.wrapping_add(steps::cut_round(t, h));
     }
+    seen
 }
 
-/// Plays so many rounds of the kind on four frames, and answers what the loads saw. Memory is
-/// want of memory.
+/// Plays so many rounds of the kind on four frames, and answers the sum of what the rounds saw,
+/// modulo 2^64. Memory is want of memory.
 pub fn played(alloc: Global, kind: StepKind, rounds: u64) -> Result<u64, Memory> {
     let (table, mut holder) = FrameTable::open(alloc, 4)?;
-    let mut seen = 0;
-    match kind {
-        StepKind::Peek => seen = peeks(&table, &mut holder, rounds),
-        StepKind::Put => puts(&table, &mut holder, rounds),
-        StepKind::Dress => dresses(&table, &mut holder, rounds),
-        StepKind::Gain => gains(&table, &mut holder, rounds),
-        StepKind::Entry => entries(&table, &mut holder, rounds),
-        StepKind::Cut => cuts(&table, &mut holder, rounds),
-    }
-    Ok(seen)
+    let (t, h) = (&table, &mut holder);
+    Ok(match kind {
+        StepKind::Peek => peeks(t, h, rounds),
+        StepKind::Put => puts(t, h, rounds),
+        StepKind::Dress => dresses(t, h, rounds),
+        StepKind::Gain => gains(t, h, rounds),
+        StepKind::Entry => entries(t, h, rounds),
+        StepKind::Cut => cuts(t, h, rounds),
+    })
 }
 
 /// Opens a table of so many frames, and answers their number. Memory is want of memory.

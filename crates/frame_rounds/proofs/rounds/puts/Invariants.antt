@@ -1,7 +1,6 @@
-use Rattle.std.proofs.Common.{◌≡◌}
 use Rattle.frame_words.specs.Holders.{view, IsOf}
-use Rattle.frame_rounds.specs.Rows.{put_view}
+use Rattle.frame_rounds.specs.Rows.{IsPut}
 use Rattle.frame_rounds.proofs.rounds.puts.Given as goal
 
-abbrev pub invariant-loop : goal.invariant-loop
-invariant-loop l = (view l.h ≡ put_view) × IsOf l.h l.t
+abbrev pub invariant-loop-round : goal.invariant-loop-round
+invariant-loop-round l = IsPut (view l.h) × IsOf l.h l.t
