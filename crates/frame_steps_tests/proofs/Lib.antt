@@ -1,3 +1,4 @@
 pub mod Placing
 pub mod Visits
 pub mod Worked
+mod Filling

@@ -1,1 +1,2 @@
 pub mod Mids
+pub mod Filled
