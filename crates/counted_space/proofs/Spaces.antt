@@ -30,12 +30,14 @@ and_false false = refl
 
 -- fewer spares, or as many, over a space in which the same may be done
 pub sound-from : (old new : Counted) → IsCounted old → new.spares ≤ old.spares
-    → (plain.flat new.plain).permissions ≡ (plain.flat old.plain).permissions → IsCounted new
-sound-from old new sound le e =
+    → (plain.flat new.plain).permissions ≡ (plain.flat old.plain).permissions
+    → plain.finished new.plain ≡ true → IsCounted new
+sound-from old new sound le e finished =
     let few = sound.few in
     record {
       few = omega arith;
       below = λ page h. ap (λ p. (p page).writable) e ∙ sound.below page h;
+      finished = finished;
     }
 
 pub on_ok : {T E : Type 0} {P : Type 0} (r : Result T E) → OnOk r P → false ≡ is_err r → P

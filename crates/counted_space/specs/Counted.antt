@@ -1,5 +1,5 @@
 -- What a counted space means.
-use Rattle.std.specs.Prelude.{◌≡◌, ℕ, ◌≤◌, false, List}
+use Rattle.std.specs.Prelude.{◌≡◌, ℕ, ◌≤◌, false, true, List}
 use Rattle.image_model.specs.Pages.{page_limit}
 use Rattle.space_api.specs.Flat.{Flat}
 use Rattle.space_api.specs.Frames.{spares_limit}
@@ -15,8 +15,9 @@ marked_flat flat pages = record flat { written = is_marked pages }
 abbrev pub flat_in : Counted → Flat
 flat_in counted = marked_flat (plain.flat counted.plain) counted.pages.items
 
--- few spares, and nothing may be written at or above the limit
+-- few spares, nothing may be written at or above the limit, and the space below may run
 pub record IsCounted (counted : Counted) : Type 0 where
   pub few : counted.spares ≤ spares_limit
   pub below : (page : ℕ) → page_limit ≤ page
       → ((plain.flat counted.plain).permissions page).writable ≡ false
+  pub finished : plain.finished counted.plain ≡ true

@@ -1,15 +1,17 @@
 //! The space.
 
-ghost use Rattle.std.specs.Prelude.{◌≡◌, ◌+◌, ◌≤◌, min, IfOk};
+ghost use Rattle.std.specs.Prelude.{◌≡◌, ◌+◌, ◌≤◌, min, IfOk, true};
 ghost use Rattle.space_api.specs.Flat.{flat_of};
 ghost use Rattle.space_api.specs.Frames.{spares_limit};
+ghost use Rattle.plain_space.specs.PlainSpace as plain;
 ghost use Rattle.counted_space.specs.Counted.{IsCounted};
 ghost use Rattle.counted_space.specs.Sound.{IsCounted-prop};
 
 use crate::counted::Counted;
-use plain_space::PlainSpace;
-use space_api::{Access, Held, Memory, Space, Start};
+use plain_space::{PlainShelf, PlainSpace, PlainStore};
+use space_api::{Access, Held, Memory, Space, Start, Store};
 use std::alloc::Global;
+use std::slice;
 
 /// How many spares it holds at most.
 const SPARES_LIMIT: u32 = 16;
@@ -23,6 +25,23 @@ pub struct CountedSpace {
     ghost sound: { IsCounted counted } by { IsCounted-prop counted },
 }
 
+/// A space of the start over copied pages, which may run.
+fn plain_of(alloc: Global, start: &Start) -> Result<PlainSpace, Memory>
+    ensures flat { IfOk result (λ space. plain.flat space ≡ flat_of start.now) }
+    ensures finished { IfOk result (λ space. plain.finished space ≡ true) }
+{
+    let store = PlainStore::open(slice::from_ref(start))?;
+    let mut shelf = PlainShelf::new(0);
+    let Ok(mut image) = store.open_image(alloc, &mut shelf, 0) else {
+        return Err(Memory);
+    };
+    let Ok(mut space) = store.deploy(alloc, &mut image, &mut shelf) else {
+        return Err(Memory);
+    };
+    store.finish_deploy(&mut space);
+    Ok(space)
+}
+
 impl CountedSpace {
     ghost use Rattle.counted_space.specs.CountedSpace.{flat, spares};
 
@@ -33,7 +52,7 @@ impl CountedSpace {
         ensures spares { IfOk result (λ space. spares space ≡ n) }
     {
         start.keeps_layout();
-        let plain = PlainSpace::of(alloc, start)?;
+        let plain = plain_of(alloc, start)?;
         let counted = Counted {
             alloc,
             plain,
@@ -53,9 +72,13 @@ impl CountedSpace {
 }
 
 impl Held for CountedSpace {
+    ghost use Rattle.std.specs.Prelude.{None};
+
     ghost stake = { λ _. 0 };
 
     ghost span = { λ _. 0 };
+
+    ghost pin = { λ _. None };
 }
 
 impl Space for CountedSpace {
@@ -63,6 +86,7 @@ impl Space for CountedSpace {
     ghost use Rattle.std.specs.Prelude.{List};
     ghost use Rattle.std.specs.Prelude.{length, None, IfOk, OnOk, OnErr, IsOk, Err, MatchBool};
     ghost use Rattle.std.specs.Prelude.{IfErr};
+    ghost use Rattle.std.proofs.Common.{refl};
     ghost use Rattle.counted_space.specs.CountedSpace.{flat, spares};
 
     ghost flat = { flat };
@@ -101,4 +125,6 @@ impl Space for CountedSpace {
     }
 
     ghost spares_are_few = { λ space. space.sound.few };
+
+    ghost finished_is_free = { λ _ _. refl };
 }

@@ -1,4 +1,5 @@
-ghost use Rattle.std.specs.Prelude.{◌≡◌, ◌%◌, IfOk};
+ghost use Rattle.std.specs.Prelude.{◌≡◌, ◌%◌, IfOk, true};
+ghost use Rattle.plain_space.specs.PlainSpace.{finished};
 
 mod table;
 
@@ -8,9 +9,10 @@ use crate::values::{is_taken, load_size, load_value, store_size, upper_value};
 use image_model::{Bytes, Image, Segment, Segments};
 use image_start::start_of;
 use instruction_model::{BranchOp, LoadOp, StoreOp};
-use plain_space::PlainSpace;
-use space_api::Space;
+use plain_space::{PlainShelf, PlainSpace, PlainStore};
+use space_api::{Space, Start, Store};
 use std::alloc::{AllocError, Global};
+use std::slice;
 use std::test::Fail;
 
 /// A page that may be read, written and executed.
@@ -93,11 +95,25 @@ fn hart_at(pc: u64, given: &Step<'_>) -> Hart {
     hart
 }
 
+/// A space of the start, which may run.
+fn deployed(alloc: Global, start: &Start) -> Result<PlainSpace, Fail>
+    ensures { IfOk result (λ space. finished space ≡ true) }
+{
+    let store = PlainStore::open(slice::from_ref(start))?;
+    let mut shelf = PlainShelf::new(0);
+    let mut image = store.open_image(alloc, &mut shelf, 0)?;
+    let mut space = store.deploy(alloc, &mut image, &mut shelf)?;
+    store.finish_deploy(&mut space);
+    Ok(space)
+}
+
 /// A space of the pages with the word at the program counter.
-fn space_of(alloc: Global, pc: u64, word: u32) -> Result<PlainSpace, Fail> {
+fn space_of(alloc: Global, pc: u64, word: u32) -> Result<PlainSpace, Fail>
+    ensures { IfOk result (λ space. finished space ≡ true) }
+{
     let image = image(alloc)?;
     let start = start_of(alloc, &image, 0)?;
-    let mut space = PlainSpace::of(alloc, &start)?;
+    let mut space = deployed(alloc, &start)?;
     space.store(pc, 4, u64::from(word))?;
     Ok(space)
 }

@@ -149,7 +149,7 @@ impl Ports {
         ensures err { OnErr result (self.new ≡ starting clock []) }
     {
         self.clock = clock;
-        self.given.clear();
+        self.given.clear(); // with those that weren't read
         self.read = 0;
         self.count = 0;
         self.used = 0;

@@ -39,6 +39,19 @@ top_of : (layers : List PlanLayer) (k : ℕ)
 unfolding top_layers
 top_of layers k = rw (add-one k)
 
+stacks_below : (k : ℕ) (layers : List PlanLayer) (below : Option ℕ) → StandLower layers
+    → ((b : ℕ) → below ≡ Some b → b < k)
+    → option_map (top_layers k layers) below ≡ option_map (stack layers) below
+stacks_below k layers None lower lt = refl
+stacks_below k layers (Some b) lower lt =
+    ap Some (same_top k (b + 1) layers b lower (lt b refl) (omega arith))
+
+-- a layer's stack is that of the layer below, if any, and the layer
+pub stack_on : (layers : List PlanLayer) (k : ℕ) → StandLower layers
+    → stack layers k ≡ on_top (option_map (stack layers) (layer_below layers k)) k
+stack_on layers k lower = top_of layers k ∙ ap (λ below. on_top below k)
+    (stacks_below k layers (layer_below layers k) lower (lower k))
+
 -- the stack that is made from those of the earlier layers
 pub stack_made : (layers : List PlanLayer) (k : ℕ) (stacks : List (List ℕ)) → StandLower layers
     → AreStacks layers k stacks

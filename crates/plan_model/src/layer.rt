@@ -2,8 +2,8 @@
 
 ghost use Rattle.std.specs.Prelude.{◌≡◌};
 
-use crate::text::Text;
 use machine_model::Packet;
+use space_api::Text;
 use std::marker::Model;
 
 /// Packets that contracts see as a list.

@@ -9,16 +9,15 @@ mod numbers;
 mod plan;
 mod sound;
 mod stacks;
-mod text;
 
-pub use function::{Names, PlanFunction};
+pub use function::PlanFunction;
 pub use image_model::Start;
 pub use laws::stacks_have_no_layer_twice;
 pub use layer::{Packets, PlanLayer};
 pub use machine_model::Packet;
 pub use numbers::Numbers;
 pub use plan::Plan;
-pub use text::Text;
+pub use space_api::{Names, Text};
 
 #[cfg(test)]
 mod tests;

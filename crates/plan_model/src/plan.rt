@@ -4,12 +4,13 @@ ghost use Rattle.std.specs.Prelude.{◌≡◌, ◌<◌, length, map, slice_get, 
 ghost use Rattle.plan_model.specs.Outline.{Outline, AreParts, IsPlan, names_of};
 ghost use Rattle.plan_model.specs.Stacks.{stack};
 
-use crate::function::{Names, PlanFunction};
+use crate::function::PlanFunction;
 use crate::layer::PlanLayer;
 use crate::numbers::Numbers;
 use crate::sound::{packets_can_be_given, starts_can_be_loaded};
 use crate::stacks::{Stack, names, stacks};
 use image_model::Start;
+use space_api::Names;
 use std::alloc::{AllocError, Global};
 use std::marker::Model;
 

@@ -5,9 +5,9 @@ ghost use Rattle.std.specs.Prelude.{option_and_then};
 ghost use Rattle.plan_model.specs.Outline.{names_of};
 ghost use Rattle.plan_model.specs.Stacks.{AreStacks, StandLower, on_top, layer_below};
 
-use crate::function::{Names, PlanFunction};
+use crate::function::PlanFunction;
 use crate::layer::PlanLayer;
-use crate::text::Text;
+use space_api::{Names, Text};
 use std::alloc::{AllocError, Global};
 use std::marker::Model;
 

@@ -116,4 +116,7 @@ pub trait Space: Held {
 
     /// It never holds more spares than that.
     ghost spares_are_few: { (space : Self) → spares space ≤ spares_limit };
+
+    /// One that may run isn't pinned.
+    ghost finished_is_free: { (space : Self) → finished space ≡ true → Self.pin space ≡ None };
 }

@@ -1,5 +1,6 @@
 //! Programs before their first instruction.
-ghost use Rattle.std.specs.Prelude.{◌≡◌, ◌%◌, IfOk};
+ghost use Rattle.std.specs.Prelude.{◌≡◌, ◌%◌, IfOk, IfSome, true};
+ghost use Rattle.plain_space.specs.PlainSpace as plain;
 
 use super::CLOCK;
 use crate::limits::Progress;
@@ -7,9 +8,10 @@ use hyper_calls::Ports;
 use image_model::{Bytes, Image, Segment, Segments};
 use image_start::start_of;
 use machine_model::Packet;
-use plain_space::PlainSpace;
-use space_api::Hart;
+use plain_space::{PlainShelf, PlainSpace, PlainStore};
+use space_api::{Hart, Start, Store};
 use std::alloc::{AllocError, Global};
+use std::slice;
 
 /// Where each program begins. Its words stand on one page.
 pub const START: u64 = 0x1_0000;
@@ -42,6 +44,7 @@ pub struct Guest {
     pub space: PlainSpace,
     pub ports: Ports,
     pub progress: Progress,
+    ghost may_run: { plain.finished space ≡ true },
 }
 
 /// The bytes of words in hexadecimal, each the lowest byte first.
@@ -77,11 +80,25 @@ fn image_of(alloc: Global, flags: u32, bytes: Vec<u8>) -> Result<Image, AllocErr
     })
 }
 
+/// A space of the start, which may run.
+fn deployed(alloc: Global, start: &Start) -> Option<PlainSpace>
+    ensures { IfSome result (λ space. plain.finished space ≡ true) }
+{
+    let store = PlainStore::open(slice::from_ref(start)).ok()?;
+    let mut shelf = PlainShelf::new(0);
+    let mut image = store.open_image(alloc, &mut shelf, 0).ok()?;
+    let mut space = store.deploy(alloc, &mut image, &mut shelf).ok()?;
+    store.finish_deploy(&mut space);
+    Some(space)
+}
+
 /// The space of a program of these words.
-fn space_of(alloc: Global, flags: u32, words: &str) -> Option<PlainSpace> {
+fn space_of(alloc: Global, flags: u32, words: &str) -> Option<PlainSpace>
+    ensures { IfSome result (λ space. plain.finished space ≡ true) }
+{
     let image = image_of(alloc, flags, bytes_of(alloc, words)?).ok()?;
     let start = start_of(alloc, &image, STACK).ok()?;
-    PlainSpace::of(alloc, &start).ok()
+    deployed(alloc, &start)
 }
 
 /// The packet of these bytes.

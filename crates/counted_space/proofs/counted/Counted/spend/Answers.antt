@@ -7,12 +7,14 @@ pub returns-then-is_err-clause-sound : goal.returns-then-is_err-clause-sound
 returns-then-is_err-clause-sound c =
     let kept = on_err c.write_from.result c.write_from.ensures.kept c.if-is_err.ensures.value in
     sound-from c.args.self.now _ c.requires.sound (omega arith) (ap (λ f. f.permissions) kept.0)
+    c.write_from.ensures.held.0
 
 pub returns-clause-sound : goal.returns-clause-sound
 returns-clause-sound c =
     let stored =
     on_ok c.write_from.result c.write_from.ensures.stored c.if-is_err.ensures.value in
     sound-from c.args.self.now _ c.requires.sound (omega arith) (ap (λ f. f.permissions) stored)
+    c.write_from.ensures.held.0
 
 pub returns-clause-stored : goal.returns-clause-stored
 returns-clause-stored c =

@@ -8,7 +8,8 @@ invariant_of-result c =
       sound = record {
         few = c.requires;
         below = λ page le.
-            ap (λ f. (f.permissions page).writable) c.in_ok-plain.ensures
+            ap (λ f. (f.permissions page).writable) c.in_ok-plain.ensures.flat
             ∙ start-below 0 c.args.start.now.regions page c.keeps_layout.ensures.regions le;
+        finished = c.in_ok-plain.ensures.finished;
       };
     }

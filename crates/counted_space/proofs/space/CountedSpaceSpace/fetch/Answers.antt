@@ -6,5 +6,5 @@ pub invariant_of-self : goal.invariant_of-self
 invariant_of-self c =
     record {
       sound = sound-from c.args.self.now.counted _ c.args.self.now.sound (omega arith)
-          (ap (λ f. f.permissions) c.fetch.ensures.flat);
+          (ap (λ f. f.permissions) c.fetch.ensures.flat) c.fetch.ensures.held.0;
     }
