@@ -1,7 +1,13 @@
 pub mod Copies
+pub mod FrozenPages
+pub mod Marks
 pub mod Outcomes
+pub mod PageCopies
 pub mod Pages
+pub mod PlainFrozen
+pub mod PlainShelf
 pub mod PlainSpace
+pub mod PlainStore
 pub mod Sound
 pub mod Space
 pub mod Use

@@ -2,8 +2,10 @@
 use Rattle.std.specs.Prelude.{ℕ, List, [], ◌∷◌, ◌+◌}
 use denote.Struct.Props as logic
 use Rattle.image_model.specs.declared.region.Region.{Region}
+use Rattle.plain_space.specs.FrozenPages.{AreFrozen}
 use Rattle.plain_space.specs.Pages.{ArePagesOf}
 use Rattle.plain_space.specs.Space.{IsSound}
+use Rattle.plain_space.specs.declared.frozen_pages.FrozenPages.{FrozenPages}
 use Rattle.plain_space.specs.declared.page.Page.{Page}
 use Rattle.plain_space.specs.declared.pages.Pages.{Pages}
 
@@ -15,3 +17,6 @@ ArePagesOf-prop regions lowest (p ∷ ps) =
 
 pub IsSound-prop : (pages : Pages) → IsProp (IsSound pages)
 IsSound-prop pages = hlevel (logic.props, ArePagesOf-prop pages.regions.items 0 pages.list.items)
+
+pub AreFrozen-prop : (pages : FrozenPages) → IsProp (AreFrozen pages)
+AreFrozen-prop pages = hlevel (logic.props, ArePagesOf-prop pages.regions.items 0 pages.list.items)

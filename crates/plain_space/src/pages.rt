@@ -24,9 +24,9 @@ pub struct Pages {
     pub regions: Vec<Region>,
     pub list: Vec<Page>,
     /// Where in the list a page to fetch from may be, by the rest of its number.
-    pub code: [usize; 64],
+    pub code: [u32; 64],
     /// Where in the list a page to read or write may be, by the rest of its number.
-    pub data: [usize; 64],
+    pub data: [u32; 64],
 }
 
 impl Pages {
@@ -72,13 +72,13 @@ impl Pages {
         ensures same { IsSame self.old self.new }
     {
         let slot = (number % GUESSES) as usize;
-        let guess = self.code[slot];
+        let guess = self.code[slot] as usize;
         if self.is_at(guess, number) {
             return Some(guess);
         }
         let found = self.search(number);
         if let Some(i) = found {
-            self.code[slot] = i;
+            self.code[slot] = u32::try_from(i).unwrap_or(0);
         }
         found
     }
@@ -91,13 +91,13 @@ impl Pages {
         ensures same { IsSame self.old self.new }
     {
         let slot = (number % GUESSES) as usize;
-        let guess = self.data[slot];
+        let guess = self.data[slot] as usize;
         if self.is_at(guess, number) {
             return Some(guess);
         }
         let found = self.search(number);
         if let Some(i) = found {
-            self.data[slot] = i;
+            self.data[slot] = u32::try_from(i).unwrap_or(0);
         }
         found
     }

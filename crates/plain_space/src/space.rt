@@ -1,51 +1,68 @@
 //! The space.
 
-ghost use Rattle.std.specs.Prelude.{◌≡◌, IfOk};
-ghost use Rattle.machine_model.specs.Machine.{least_failing};
-ghost use Rattle.space_api.specs.Flat.{flat_of, is_writable};
+ghost use Rattle.std.specs.Prelude.{◌≡◌, true, false, IfOk, OnOk, OnErr};
+ghost use Rattle.image_model.specs.Pages.{page_limit};
+ghost use Rattle.machine_model.specs.Machine.{count_below, least_failing};
+ghost use Rattle.space_api.specs.Flat.{is_writable};
+ghost use Rattle.space_api.specs.Stores.{frozen};
+ghost use Rattle.plain_space.specs.FrozenPages.{AreFrozen, frozen_in};
 ghost use Rattle.plain_space.specs.Sound.{IsSound-prop};
 ghost use Rattle.plain_space.specs.Space.{IsSound, flat_in};
 
+use crate::frozen_pages::FrozenPages;
 use crate::pages::Pages;
 use crate::reads::Use;
-use crate::start_pages::copy_pages;
-use space_api::{Access, Held, Memory, Space, Start};
+use space_api::{Access, Held, Memory, Space};
 use std::alloc::Global;
 
 /// A space over copied pages. It shares nothing, takes no frames and holds no spares. Its stake
-/// and its span are 0, and it is finished.
+/// and its span are 0, and nothing pins it.
 #[derive(Drop)]
 pub struct PlainSpace {
     pages: Pages,
+    finished: bool,
     ghost sound: { IsSound pages } by { IsSound-prop pages },
-}
-
-/// The pages of a start.
-fn pages_of(alloc: Global, start: &Start) -> Result<Pages, Memory>
-    ensures sound { IfOk result IsSound }
-    ensures flat { IfOk result (λ pages. flat_in pages ≡ flat_of start.now) }
-{
-    start.keeps_layout();
-    let regions = Vec::from_slice(alloc, start.regions())?;
-    let list = copy_pages(alloc, start.regions(), start.pages())?;
-    Ok(Pages {
-        alloc,
-        regions,
-        list,
-        code: [0; 64],
-        data: [0; 64],
-    })
 }
 
 impl PlainSpace {
     ghost use Rattle.plain_space.specs.PlainSpace.{flat};
 
-    /// The space of a start, of which no page was written.
-    pub fn of(alloc: Global, start: &Start) -> Result<PlainSpace, Memory>
-        ensures { IfOk result (λ space. flat space ≡ flat_of start.now) }
+    /// A space of these pages, which is to be finished.
+    pub(crate) fn begun(pages: Pages) -> PlainSpace
+        requires { IsSound pages }
+        ensures flat { flat result ≡ flat_in pages }
+        ensures finished { result.finished ≡ false }
     {
-        let pages = pages_of(alloc, start)?;
-        Ok(PlainSpace { pages })
+        PlainSpace {
+            pages,
+            finished: false,
+        }
+    }
+
+    /// Finishes it: it may run.
+    pub(crate) fn finish(&mut self)
+        ensures flat { flat self.new ≡ flat self.old }
+        ensures finished { self.new.finished ≡ true }
+    {
+        self.finished = true;
+    }
+
+    /// Freezes its pages, and goes on with copies of them, of which none was written.
+    pub(crate) fn freeze(&mut self, alloc: Global) -> Result<FrozenPages, Memory>
+        ensures sound { IfOk result AreFrozen }
+        ensures frozen { IfOk result (λ pages. frozen_in pages ≡ frozen (flat self.old)) }
+        ensures flat { OnOk result (flat self.new ≡ frozen (flat self.old)) }
+        ensures kept { OnErr result (flat self.new ≡ flat self.old) }
+        ensures finished { self.new.finished ≡ self.old.finished }
+    {
+        self.pages.freeze(alloc)
+    }
+
+    /// How many of its pages were written.
+    pub(crate) fn count_marks(&self) -> u32
+        ensures { result ≡ count_below (flat self.now).written page_limit }
+    {
+        self.pages.count_marks()
     }
 
     /// The least of `size` addresses from `at` on that may not be written.
@@ -57,9 +74,13 @@ impl PlainSpace {
 }
 
 impl Held for PlainSpace {
+    ghost use Rattle.std.specs.Prelude.{None};
+
     ghost stake = { λ _. 0 };
 
     ghost span = { λ _. 0 };
+
+    ghost pin = { λ _. None };
 }
 
 impl Space for PlainSpace {
@@ -67,14 +88,14 @@ impl Space for PlainSpace {
     ghost use Rattle.std.specs.Prelude.{List};
     ghost use Rattle.std.specs.Prelude.{length, None, IfOk, OnOk, OnErr, IsOk, Err, MatchBool};
     ghost use Rattle.std.specs.Prelude.{IfErr};
-    ghost use Rattle.std.proofs.Common.{rules};
-    ghost use Rattle.plain_space.specs.PlainSpace.{flat};
+    ghost use Rattle.std.proofs.Common.{rules, refl};
+    ghost use Rattle.plain_space.specs.PlainSpace.{flat, finished};
 
     ghost flat = { flat };
 
     ghost spares = { λ _. 0 };
 
-    ghost finished = { λ _. true };
+    ghost finished = { finished };
 
     ghost takes_frames = { false };
 
@@ -109,4 +130,6 @@ impl Space for PlainSpace {
     }
 
     ghost spares_are_few = { λ _. Prim.search rules };
+
+    ghost finished_is_free = { λ _ _. refl };
 }

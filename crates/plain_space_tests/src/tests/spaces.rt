@@ -1,54 +1,15 @@
-//! Each call of a space once, with values worked by hand: bytes stand the lowest first, pages
-//! have 4,096 bytes, and a page fault is cause 12, 13 or 15.
+//! The calls of a space: bytes stand the lowest first, pages have 4,096 bytes, and a page fault is
+//! cause 12, 13 or 15.
 
 ghost use Rattle.std.specs.Prelude.{◌≡◌, true};
 
-use super::*;
-use image_model::{Bytes, PageBytes, Region};
-use space_api::{Access, Space, Start};
-use std::alloc::{AllocError, Global};
+use super::starts::starts;
+use super::stores::deployed;
+use plain_space::{PlainShelf, PlainStore};
+use space_api::{Access, Space};
+use std::alloc::Global;
 use std::process::Abort;
 use std::test::Fail;
-
-/// Pages 16 and 17 are code, 18 and 19 are data, and 20 may only be read; 16 and 18 are full of
-/// sevens. No other page may be accessed.
-fn start(alloc: Global) -> Result<Start, AllocError> {
-    let code = Region {
-        page: 16,
-        count: 2,
-        r: true,
-        w: false,
-        x: true,
-    };
-    let writable = Region {
-        page: 18,
-        count: 2,
-        r: true,
-        w: true,
-        x: false,
-    };
-    let constant = Region {
-        page: 20,
-        count: 1,
-        r: true,
-        w: false,
-        x: false,
-    };
-    let first = Bytes::from_vec(vec![in alloc; 7; 4096]?);
-    let second = Bytes::from_vec(vec![in alloc; 7; 4096]?);
-    let regions = vec![in alloc; code, writable, constant]?;
-    let pages = vec![in alloc;
-        PageBytes {
-            page: 16,
-            bytes: first
-        },
-        PageBytes {
-            page: 18,
-            bytes: second
-        },
-    ]?;
-    Ok(Start::new(0x1_0000, regions, pages))
-}
 
 /// A fault of this cause at an address.
 fn fault<T>(cause: u64, addr: u64) -> Result<T, Access> {
@@ -114,8 +75,10 @@ fn copies<R: Abort, S: Space>(rt: &R, alloc: Global, space: &mut S) -> Result<()
 
 #[test]
 fn a_space_does_what_its_trait_says(rt: HostRuntime) -> Result<(), Fail> {
-    let start = start(rt.alloc())?;
-    let mut space = PlainSpace::of(rt.alloc(), &start)?;
+    let starts = starts(rt.alloc())?;
+    let store = PlainStore::open(&starts)?;
+    let mut shelf = PlainShelf::new(0);
+    let mut space = deployed(rt.alloc(), &store, &mut shelf)?;
     loads(&rt, &mut space)?;
     stores(&rt, &mut space)?;
     fetches(&rt, &mut space)?;

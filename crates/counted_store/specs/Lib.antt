@@ -1,0 +1,6 @@
+pub mod Below
+pub mod Claims
+pub mod Copied
+pub mod Counted
+pub mod Shelf
+pub mod Sound

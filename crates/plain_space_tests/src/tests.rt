@@ -1,0 +1,5 @@
+//! Each call of a store and of a space once, with values worked by hand.
+
+mod spaces;
+mod starts;
+mod stores;
