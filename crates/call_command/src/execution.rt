@@ -1,10 +1,12 @@
 //! The execution of an image: its machine is made, given packets, and run to its first stop.
 
-ghost use Rattle.std.specs.Prelude.{◌≡◌, ◌≢◌, ◌%◌, ◌<◌, IfOk};
+ghost use Rattle.std.specs.Prelude.{◌≡◌, ◌≢◌, ◌%◌, ◌<◌, IfOk, true};
 ghost use Rattle.image_model.specs.StartOf as model;
 ghost use Rattle.machine_model.specs.Loaded.{loaded};
 ghost use Rattle.machine_model.specs.Run.{give, Replies};
 ghost use Rattle.machine_run.specs.Continued as continued;
+ghost use Rattle.plain_space.specs.PlainSpace.{flat, finished};
+ghost use Rattle.space_api.specs.Flat.{flat_of};
 ghost use Rattle.call_command.specs.Call.{call_stack, call_limits};
 
 use hyper_calls::Ports;
@@ -12,9 +14,10 @@ use image_model::Image;
 use image_start::start_of;
 use machine_model::{Memory, Packet, Stop};
 use machine_run::{Limits, Progress, RunEnd, Steps, parts_are_the_run, run};
-use plain_space::PlainSpace;
-use space_api::first_hart;
+use plain_space::{PlainShelf, PlainSpace, PlainStore};
+use space_api::{Refused, Start, Store, first_hart};
 use std::alloc::Global;
+use std::slice;
 use std::sync::ledger::{Blank, Ledger};
 
 /// The size of the stack in bytes.
@@ -56,6 +59,28 @@ fn stop_of(end: RunEnd) -> Option<Stop>
     }
 }
 
+/// A space of the start over copied pages, which may run. These take no frames, so only memory
+/// can be wanted.
+fn space_of(alloc: Global, start: &Start) -> Result<PlainSpace, Memory>
+    ensures flat { IfOk result (λ space. flat space ≡ flat_of start.now) }
+    ensures finished { IfOk result (λ space. finished space ≡ true) }
+{
+    let store = PlainStore::open(slice::from_ref(start))?;
+    let mut shelf = PlainShelf::new(0);
+    let mut image = match store.open_image(alloc, &mut shelf, 0) {
+        Ok(image) => image,
+        Err(Refused::Memory) => return Err(Memory),
+        Err(Refused::Frames) => unreachable!(),
+    };
+    let mut space = match store.deploy(alloc, &mut image, &mut shelf) {
+        Ok(space) => space,
+        Err(Refused::Memory) => return Err(Memory),
+        Err(Refused::Frames) => unreachable!(),
+    };
+    store.finish_deploy(&mut space);
+    Ok(space)
+}
+
 /// Executes an image that is given these packets.
 pub fn execute<L: Ledger>(
     alloc: Global,
@@ -75,7 +100,7 @@ pub fn execute<L: Ledger>(
     parts_are_the_run();
     let start = start_of(alloc, image, STACK)?;
     let mut hart = first_hart(&start);
-    let mut space = PlainSpace::of(alloc, &start)?;
+    let mut space = space_of(alloc, &start)?;
     let mut ports = Ports::open(alloc, CLOCK)?;
     ports.begin(alloc, packets, CLOCK)?;
     let mut progress = Progress { done: 0 };

@@ -20,7 +20,7 @@ returns-in-Some g c =
           c.in-Some.stop done after (sym c.stop_of.ensures ∙ c.in-Some.is)
           (runs_loaded call_limits end done after c.args.packets.now c.begin.new.self
           c.first_hart-hart.result (flat c.in_ok-space.space) c.in_ok-start.start start
-          c.in_ok-begin.ensures.ok c.in_ok-space.ensures c.first_hart-hart.ensures
+          c.in_ok-begin.ensures.ok c.in_ok-space.ensures.flat c.first_hart-hart.ensures
           c.in_ok-start.ensures c.run-end.ensures.runs);
       packets_are = refl;
       console_is = refl;

@@ -1,0 +1,4 @@
+pub mod Captures
+pub mod Images
+pub mod Requests
+pub mod Runs

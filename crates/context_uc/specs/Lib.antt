@@ -1,0 +1,4 @@
+pub mod Runs
+pub mod Same
+pub mod Takes
+pub mod Views
