@@ -2,10 +2,11 @@
 use Rattle.std.proofs.Common.{◌≡◌, ◌≢◌, ℕ, ◌<◌, ◌≤◌, List, length, take, Option, Result, Ok, Err}
 use Rattle.std.proofs.Common.{IfErr, OnOk, refl, arith}
 use Rattle.asm_commands.specs.Causes.{AsmRefusal}
-use Rattle.asm_commands.specs.Conversion.{Makes, ConversionDoes, CouldNot, Refuses, source_limit}
+use Rattle.asm_commands.specs.Conversion.{Makes, ConversionDoes, CouldNot, Refuses, Writes}
+use Rattle.asm_commands.specs.Conversion.{WritesNot, source_limit}
 use Rattle.command_parts.proofs.Inputs.{input_taken}
 use Rattle.command_parts.specs.Ending.{Keeps}
-use Rattle.command_parts.specs.Outside.{Contents, Stream, Fails, IsCounted}
+use Rattle.command_parts.specs.Outside.{Contents, Stream, IsCounted, IsKept}
 use Rattle.command_parts.specs.Outside.{no_sink, outside, seen}
 use Rattle.command_parts.specs.Sources.{IsInput, RefusesSource}
 use Rattle.command_parts.specs.declared.refusal.Refusal.{Refusal}
@@ -34,26 +35,30 @@ module _ (makes : Makes) (source : Stream) where
   of_input sink input is File h = h
   of_input sink input is Memory h = input_taken source_limit source input is
 
-  -- a write of what was made failed, or didn't
-  pub of_output : {T : Type 0} (sink : Stream) (result : Result T AsmRefusal)
-      (input output : List ℕ) → IsInput source_limit source input → makes input (Ok output)
-      → OnOk result (Adds output sink.before sink.after)
-      → IfErr result (λ refusal. (refusal ≡ Write) × Fails sink
-      × ((part : ℕ) × (part < length output) × Adds (take part output) sink.before sink.after))
-      → ConversionDoes makes source sink result
-  of_output sink (Ok done) input output is made written refused = record {
-    output = output;
-    made = record { input = input; input_is = is; made_is = made };
-    written = written;
+  -- what was made of them was written, or a write failed
+  pub of_writing : {T : Type 0} (sink : Stream) (result : Result T AsmRefusal) (input : List ℕ)
+      → IsInput source_limit source input → OnOk result (Writes makes input sink)
+      → IfErr result (WritesNot makes input sink) → ConversionDoes makes source sink result
+  of_writing sink (Ok done) input is written refused = record {
+    output = written.output;
+    made = record { input = input; input_is = is; made_is = written.made_is };
+    written = written.written;
   }
-  of_output sink (Err refusal) input output is made written refused = rw refused.0 record {
-    output = output;
-    made = record { input = input; input_is = is; made_is = made };
-    failed = refused.1;
-    part = refused.2.0;
-    within = refused.2.1;
-    written = refused.2.2;
+  of_writing sink (Err (Own cause)) input is written refused =
+      of_input sink input is (Own cause) refused
+  of_writing sink (Err Size) input is written refused = absurd refused
+  of_writing sink (Err Read) input is written refused = absurd refused
+  of_writing sink (Err Write) input is written refused = record {
+    output = refused.output;
+    made = record { input = input; input_is = is; made_is = refused.made_is };
+    failed = refused.failed;
+    part = refused.part;
+    within = refused.within;
+    written = refused.written;
   }
+  of_writing sink (Err File) input is written refused = absurd refused
+  of_writing sink (Err Memory) input is written refused =
+      of_input sink input is Memory refused
 
 -- ---- what is kept
 
@@ -84,58 +89,26 @@ keeps_source result had refusal files n source written m is was refused counted 
       };
     }
 
--- what can't be made isn't refused for a file
-made_not_file : (makes : Makes) (input : List ℕ) (refusal : AsmRefusal)
-    → CouldNot makes input refusal → refusal ≡ File → ⊥
-made_not_file makes input refusal h e = rw e at h
+-- what can't be written isn't refused for a file
+written_not_file : {T : Type 0} (makes : Makes) (input : List ℕ) (sink : Stream)
+    (result : Result T AsmRefusal) → IfErr result (WritesNot makes input sink)
+    → result ≡ Err File → ⊥
+written_not_file makes input sink result h e = rw e at h
 
--- nothing could be made of the source's bytes
-pub keeps_input : {T : Type 0} (result : Result T AsmRefusal) (makes : Makes) (input : List ℕ)
-    (refusal : AsmRefusal) (files : Contents) (n : ℕ) (source : Stream)
-    (written : Option (List ℕ)) (m : ℕ) → result ≡ Err refusal → CouldNot makes input refusal
-    → IsCounted source → source.faults ≤ source.faults_after
-    → Keeps (outside (seen files files n n) source (seen written written m m) no_sink) result
-keeps_input result makes input refusal files n source written m is refused counted rises =
-    rw is record {
-      source = λ file. absurd (made_not_file makes input refusal refused cc);
-      sink = λ other. refl;
-      files_count = λ other. refl;
-      source_count = λ other. counted;
-      sink_count = λ other. refl;
-      monotone = record {
-        files = omega arith;
-        source = rises;
-        sink = omega arith;
-        errs = omega arith;
-      };
-    }
-
--- all was read and made, and written or not
-pub keeps_output : {T : Type 0} (result : Result T AsmRefusal) (files : Contents) (n : ℕ)
-    (source sink : Stream) → IsCounted source → source.faults ≤ source.faults_after
-    → IfErr result (λ refusal. refusal ≡ Write) → OnOk result (IsCounted sink)
-    → sink.faults ≤ sink.faults_after
+-- all was read, and what was made of it was written or not
+pub keeps_writing : {T : Type 0} (result : Result T AsmRefusal) (makes : Makes) (input : List ℕ)
+    (files : Contents) (n : ℕ) (source sink : Stream) → IsCounted source
+    → source.faults ≤ source.faults_after → IfErr result (WritesNot makes input sink)
+    → IfErr result (λ refusal. refusal ≢ Write → IsKept sink)
+    → (result ≢ Err Write → IsCounted sink) → sink.faults ≤ sink.faults_after
     → Keeps (outside (seen files files n n) source sink no_sink) result
-keeps_output (Ok done) files n source sink counted rises refused sink_counted sink_rises = record {
-  source = λ file. absurd cc;
-  sink = tt;
-  files_count = λ other. refl;
-  source_count = λ other. counted;
-  sink_count = λ other. sink_counted;
-  monotone = record {
-    files = omega arith;
-    source = rises;
-    sink = sink_rises;
-    errs = omega arith;
-  };
-}
-keeps_output (Err refusal) files n source sink counted rises refused sink_counted sink_rises =
-    rw refused record {
-      source = λ file. absurd cc;
-      sink = λ other. absurd (other refl);
+keeps_writing result makes input files n source sink counted rises refused kept sink_counted
+    sink_rises = record {
+      source = λ file. absurd (written_not_file makes input sink result refused file);
+      sink = kept;
       files_count = λ other. refl;
       source_count = λ other. counted;
-      sink_count = λ other. absurd (other refl);
+      sink_count = sink_counted;
       monotone = record {
         files = omega arith;
         source = rises;

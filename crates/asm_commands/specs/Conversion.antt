@@ -62,6 +62,32 @@ CouldNot makes input Write = ⊥
 CouldNot makes input File = ⊥
 CouldNot makes input Memory = Unit {0}
 
+-- ---- how what is made of bytes is written
+
+-- what comes of the bytes was written
+pub record Writes (makes : Makes) (input : List ℕ) (sink : Stream) : Type 0 where
+  pub output : List ℕ
+  pub made_is : makes input (Ok output)
+  pub written : Adds output sink.before sink.after
+
+-- a write failed after a part of what comes of the bytes, from the front
+pub record CutsOff (makes : Makes) (input : List ℕ) (sink : Stream) : Type 0 where
+  pub output : List ℕ
+  pub made_is : makes input (Ok output)
+  pub failed : Fails sink
+  pub part : ℕ
+  pub within : part < length output
+  pub written : Adds (take part output) sink.before sink.after
+
+-- why it wasn't: nothing could be made of the bytes, or a write failed
+abbrev pub WritesNot : Makes → List ℕ → Stream → AsmRefusal → Type 0
+WritesNot makes input sink (Own cause) = CouldNot makes input (Own cause)
+WritesNot makes input sink Size = CouldNot makes input Size
+WritesNot makes input sink Read = CouldNot makes input Read
+WritesNot makes input sink Write = CutsOff makes input sink
+WritesNot makes input sink File = CouldNot makes input File
+WritesNot makes input sink Memory = CouldNot makes input Memory
+
 -- ---- how it ends
 
 -- it was done, or refused for its cause

@@ -3,3 +3,4 @@ pub mod Causes
 pub mod Conversion
 pub mod Dis
 pub mod Listing
+pub mod Loads

@@ -1,13 +1,14 @@
 //! `asm`: assembler text becomes an ELF file.
 
 ghost use Rattle.std.specs.Prelude.{◌≡◌, ◌+◌, ◌≤◌, length, take, Ok, IfOk, IfErr};
-ghost use Rattle.asm_commands.specs.Asm.{TextAssembles, line_feeds};
+ghost use Rattle.asm_commands.specs.Asm.{Assembles, TextAssembles, line_feeds};
 ghost use Rattle.asm_commands.specs.Conversion.{CouldNot, source_limit};
 
 use crate::cause::AsmCause;
 use crate::converting::{AsmRefusal, Conversion};
 use asm_lines::AsmKind;
-use command_parts::Refusal;
+use command_parts::{Refusal, write_output};
+use edge_streams::Sink;
 use rv_asm::{AsmFault, assemble};
 use std::alloc::Global;
 
@@ -19,14 +20,24 @@ impl Conversion for Assembly {
 
     ghost makes = { Assembles };
 
-    fn make(alloc: Global, input: Vec<u8>) -> Result<Vec<u8>, AsmRefusal> {
-        match str::from_utf8(&input) {
-            Ok(text) => file_of(alloc, text),
-            Err(error) => Err(Refusal::Own(AsmCause::Line {
-                number: line_behind(&input, error.valid_up_to()),
-                kind: AsmKind::BadShape,
-            })),
-        }
+    fn write<K: Sink>(alloc: Global, input: Vec<u8>, sink: &mut K) -> Result<(), AsmRefusal> {
+        let file = made(alloc, input)?;
+        write_output(sink, &file)
+    }
+}
+
+/// The ELF file of a source's bytes, or what they are refused for.
+fn made(alloc: Global, input: Vec<u8>) -> Result<Vec<u8>, AsmRefusal>
+    requires { length input.items ≤ source_limit }
+    ensures made { IfOk result (λ file. Assembles input.items (Ok file.items)) }
+    ensures refused { IfErr result (CouldNot Assembles input.items) }
+{
+    match str::from_utf8(&input) {
+        Ok(text) => file_of(alloc, text),
+        Err(error) => Err(Refusal::Own(AsmCause::Line {
+            number: line_behind(&input, error.valid_up_to()),
+            kind: AsmKind::BadShape,
+        })),
     }
 }
 

@@ -1,9 +1,9 @@
 //! A command that converts its source: what is made of the source's bytes is written.
 
-ghost use Rattle.std.specs.Prelude.{◌≡◌, ℕ, ◌≤◌, length, Ok, IfOk, IfErr};
+ghost use Rattle.std.specs.Prelude.{◌≡◌, ◌≢◌, ℕ, ◌≤◌, length, Err, IfErr, OnOk};
 ghost use Rattle.asm_commands.specs.Asm.{Assembles};
-ghost use Rattle.asm_commands.specs.Conversion.{Makes, ConversionDoes, ConversionEnds, CouldNot};
-ghost use Rattle.asm_commands.specs.Conversion.{source_limit};
+ghost use Rattle.asm_commands.specs.Conversion.{Makes, ConversionDoes, ConversionEnds};
+ghost use Rattle.asm_commands.specs.Conversion.{Writes, WritesNot, source_limit};
 ghost use Rattle.asm_commands.specs.Dis.{Lists};
 ghost use Rattle.command_parts.specs.Ending.{Keeps, Leaves};
 ghost use Rattle.command_parts.specs.Outside.{Contents, outside, no_sink, see, seen};
@@ -11,7 +11,7 @@ ghost use Rattle.command_parts.specs.Outside.{Contents, outside, no_sink, see, s
 use crate::assembler::Assembly;
 use crate::cause::AsmCause;
 use crate::disassembler::Disassembly;
-use command_parts::{Given, Refusal, Shows, Status, finish, read_source, write_output};
+use command_parts::{Given, Refusal, Shows, Status, finish, read_source};
 use edge_files::Files;
 use edge_streams::{Sink, Source};
 use image_model::FILE_LIMIT;
@@ -28,12 +28,20 @@ pub trait Conversion {
     /// What comes of which bytes: others, or a cause of refusal.
     ghost makes: { Makes };
 
-    /// What comes of the bytes, no more than 16,777,216. The errors are the cause that comes of the
-    /// bytes, and Memory.
-    fn make(alloc: Global, input: Vec<u8>) -> Result<Vec<u8>, AsmRefusal>
+    /// Writes what comes of the bytes, no more than 16,777,216. A write that fails leaves a part of
+    /// it, from the front; where it is refused for another cause nothing was written.
+    ///
+    /// The errors are the cause that comes of the bytes, Write and Memory.
+    fn write<K: Sink>(alloc: Global, input: Vec<u8>, sink: &mut K) -> Result<(), AsmRefusal>
         requires { length input.items ≤ source_limit }
-        ensures made { IfOk result (λ output. makes input.items (Ok output.items)) }
-        ensures refused { IfErr result (CouldNot makes input.items) };
+        ensures done { OnOk result (Writes makes input.items
+            (see K.contents K.faults sink.old sink.new)) }
+        ensures refused { IfErr result (WritesNot makes input.items
+            (see K.contents K.faults sink.old sink.new)) }
+        ensures kept { IfErr result (λ refusal. refusal ≢ Refusal.Write
+            → K.contents sink.new ≡ K.contents sink.old) }
+        ensures counted { result ≢ Err Refusal.Write → K.faults sink.new ≡ K.faults sink.old }
+        ensures never_falls { K.faults sink.old ≤ K.faults sink.new };
 }
 
 /// Reads the source to its end, and writes what comes of its bytes.
@@ -50,8 +58,7 @@ fn convert<C: Conversion, S: Source, K: Sink>(
         (see K.contents K.faults sink.old sink.new) no_sink) result }
 {
     let input = read_source::<AsmCause, S>(alloc, source, SOURCE_LIMIT)?;
-    let output = C::make(alloc, input)?;
-    write_output(sink, &output)
+    C::write(alloc, input, sink)
 }
 
 /// `asm`: the source is assembler text, whose ELF file is written. A refusal is reported. Files

@@ -7,6 +7,7 @@ mod cause;
 mod converting;
 mod disassembler;
 mod lines;
+mod listing;
 
 pub use cause::AsmCause;
 pub use converting::{asm, dis};

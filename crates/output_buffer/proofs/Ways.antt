@@ -7,7 +7,7 @@ use Rattle.std.proofs.lemmas.List.{append-nil, take-append-le}
 use Rattle.std.proofs.Math.Seq.{take-append-add}
 use Rattle.edge_streams.specs.Content.{Adds}
 use Rattle.edge_streams.specs.Faults.{Rises}
-use Rattle.output_buffer.specs.Sent.{Held, Way, IsSent, IsCut, Sends, way}
+use Rattle.output_buffer.specs.Sent.{Held, Way, IsSent, IsCut, Sends, nothing_held, way}
 
 not_both : (b : Bool) → b ≡ false → b ≡ true → ⊥
 not_both b f t = let e : true ≡ false = sym t ∙ f in cc
@@ -169,3 +169,28 @@ pub all_cut : (sent : List ℕ) (before : Option (List ℕ)) (faults : ℕ) (now
     → Rises faults now.faults × IsCut sent before now.contents
 all_cut sent before faults now is t =
     (is.rises t, subst (λ l. IsCut l before now.contents) (append-nil sent) (is.cut t))
+
+-- ---- the start
+
+added_nothing : (told : Option (List ℕ)) → Adds [] told told
+added_nothing None = tt
+added_nothing (Some told) = ap Some (sym (append-nil told))
+
+-- nothing was sent to a sink before a new buffer
+pub nothing_sent : (told : Option (List ℕ)) (faults : ℕ)
+    → IsSent [] told faults (record { contents = told; faults = faults; held = nothing_held })
+nothing_sent told faults = record {
+  never_falls = omega arith;
+  counted = λ f. refl;
+  written = λ f. ([], refl, added_nothing told);
+  rises = λ t. absurd (not_both false refl t);
+  cut = λ t. absurd (not_both false refl t);
+}
+
+-- all that was sent since then
+pub sent_since : (bytes : List ℕ) (told : Option (List ℕ)) (faults : ℕ) (held : Held) (now : Way)
+    → held ≡ nothing_held
+    → Sends bytes (record { contents = told; faults = faults; held = held }) now
+    → IsSent bytes told faults now
+sent_since bytes told faults held now none sends =
+    (rw none at sends) [] told faults (nothing_sent told faults)

@@ -1,4 +1,5 @@
 pub mod Answered
 pub mod Assembly
 pub mod Disassembly
+pub mod WordLines
 pub mod Worked

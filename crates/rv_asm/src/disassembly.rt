@@ -2,10 +2,9 @@
 
 ghost use Rattle.std.specs.Prelude.{◌≡◌, string_bytes, IfOk};
 ghost use Rattle.rv_asm.specs.Disassembly as model;
+ghost use Rattle.rv_asm.specs.WordLines.{line_text};
 
-use asm_words::name;
-use instruction_model::every_word;
-use rv_code::{Inst, decode};
+use crate::line::{WordLine, word_line};
 use std::alloc::{AllocError, Global};
 
 /// A word as a line of assembler text, without its end: the instruction that the word is, with
@@ -16,47 +15,23 @@ use std::alloc::{AllocError, Global};
 pub fn disassemble(alloc: Global, w: u32) -> Result<String, AllocError>
     ensures { IfOk result (λ line. string_bytes line ≡ model.disassembly w) }
 {
-    every_word();
-    match decode(w) {
-        Some(inst) => instruction_text(alloc, &inst),
-        None => data_text(alloc, w),
-    }
+    let line = word_line(w);
+    text_of(alloc, &line)
 }
 
-/// The line of an instruction.
-fn instruction_text(alloc: Global, inst: &Inst) -> Result<String, AllocError>
-    ensures { IfOk result (λ line. string_bytes line ≡ model.instruction_text inst.now) }
+/// The text of a word's line.
+fn text_of(alloc: Global, line: &WordLine) -> Result<String, AllocError>
+    ensures { IfOk result (λ text. string_bytes text ≡ line_text line.now) }
 {
-    match *inst {
-        Inst::Lui { rd, n } => upper_text(alloc, "lui", rd, n),
-        Inst::Auipc { rd, n } => upper_text(alloc, "auipc", rd, n),
-        Inst::Jal { rd, offset } => jump_text(alloc, "jal", rd, offset),
-        Inst::Jalr { rd, rs1, imm } => address_text(alloc, "jalr", rd, imm, rs1),
-        Inst::Branch {
-            op,
-            rs1,
-            rs2,
-            offset,
-        } => two_registers_text(alloc, name::branch_name(op), rs1, rs2, offset),
-        Inst::Load { op, rd, rs1, imm } => address_text(alloc, name::load_name(op), rd, imm, rs1),
-        Inst::Store { op, rs1, rs2, imm } => {
-            address_text(alloc, name::store_name(op), rs2, imm, rs1)
-        }
-        Inst::OpImm { op, rd, rs1, imm } => {
-            two_registers_text(alloc, name::imm_name(op), rd, rs1, imm)
-        }
-        Inst::Op { op, rd, rs1, rs2 } => {
-            three_registers_text(alloc, name::reg_name(op), rd, rs1, rs2)
-        }
-        Inst::OpImmW { op, rd, rs1, imm } => {
-            two_registers_text(alloc, name::imm_w_name(op), rd, rs1, imm)
-        }
-        Inst::OpW { op, rd, rs1, rs2 } => {
-            three_registers_text(alloc, name::reg_w_name(op), rd, rs1, rs2)
-        }
-        Inst::Fence { rd, rs1, n } => fence_text(alloc, rd, rs1, n),
-        Inst::Ecall => String::from_str(alloc, "ecall"),
-        Inst::Ebreak => String::from_str(alloc, "ebreak"),
+    match *line {
+        WordLine::Name { name } => String::from_str(alloc, name),
+        WordLine::Upper { name, a, n } => upper_text(alloc, name, a, n),
+        WordLine::Jump { name, a, z } => jump_text(alloc, name, a, z),
+        WordLine::Address { name, a, z, b } => address_text(alloc, name, a, z, b),
+        WordLine::TwoRegisters { name, a, b, z } => two_registers_text(alloc, name, a, b, z),
+        WordLine::ThreeRegisters { name, a, b, c } => three_registers_text(alloc, name, a, b, c),
+        WordLine::Fence { a, b, n } => fence_text(alloc, a, b, n),
+        WordLine::Data { w } => data_text(alloc, w),
     }
 }
 

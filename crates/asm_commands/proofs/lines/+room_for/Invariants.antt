@@ -1,5 +1,0 @@
-use Rattle.std.proofs.Common.{length}
-use Rattle.asm_commands.proofs.lines.+room_for.Given as goal
-
-abbrev pub decreases-room_for : goal.decreases-room_for
-decreases-room_for l = length l.segments.now

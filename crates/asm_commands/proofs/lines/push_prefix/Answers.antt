@@ -1,0 +1,11 @@
+use Rattle.std.proofs.Common.{◌++◌, codes, ap}
+use Rattle.asm_commands.proofs.Digits.{eight}
+use Rattle.asm_commands.specs.Listing.{hexadecimal}
+use Rattle.output_buffer.proofs.Ways.{sends_as}
+use Rattle.asm_commands.proofs.lines.push_prefix.Goals as goal
+
+pub returns : goal.returns
+returns g c =
+    sends_as _ _ _ _
+    (ap (λ d. hexadecimal c.args.at ++ (codes " " ++ (d ++ codes " "))) (eight c.args.w))
+    c.push_pieces.ensures
