@@ -30,9 +30,20 @@ fn the_system_has_files(rt: HostRuntime) -> Result<(), Fail> {
     fs::remove_file(&rt, "six_bytes")?;
     let missing = files.read_file(alloc, "six_bytes", 6).err();
     assert_eq!(rt; missing, Some(FileFault::Failed));
+    // 2 is ENOENT, and 21 EISDIR.
+    assert_eq!(rt;
+        files.last_error().and_then(|error| error.raw_os_error()),
+        Some(2)
+    );
+    let folder = files.read_file(alloc, ".", 6).err();
+    assert_eq!(rt; folder, Some(FileFault::Failed));
+    assert_eq!(rt;
+        files.last_error().and_then(|error| error.raw_os_error()),
+        Some(21)
+    );
     let unwritten = files.write_file(alloc, "missing/six_bytes", TEXT).err();
     assert_eq!(rt; unwritten, Some(StoreFault::Failed));
-    assert_eq!(rt; files.faults(), 2);
+    assert_eq!(rt; files.faults(), 3);
     Ok(())
 }
 

@@ -15,7 +15,7 @@ mod std_source;
 pub use faults::{FaultPlan, one_more};
 pub use memory_sink::MemSink;
 pub use memory_source::MemSource;
-pub use retry::{RETRIES, read_again, write_again};
+pub use retry::{RETRIES, read_again, read_or_error, write_again, write_or_error};
 pub use sink::{Cut, Sink, write_all};
 pub use source::{Failed, ReadFault, Source, read_all};
 pub use std_sink::StdSink;

@@ -10,26 +10,13 @@ use std::io::{Error, ErrorKind, Read, Write};
 /// How often a call is made again after a signal interrupted it.
 pub const RETRIES: u32 = 16;
 
-/// Why a call of the standard library did nothing.
-#[derive(Clone, Copy)]
-enum Stop {
-    /// A signal interrupted it.
-    Interrupted,
-    /// Any other error.
-    Failed,
+/// Whether a call that ended so is to be made again.
+fn is_interrupted(error: &Error) -> bool {
+    error.kind() == ErrorKind::Interrupted
 }
 
-/// What this error means for another try.
-fn kind_of_stop(error: &Error) -> Stop {
-    if error.kind() == ErrorKind::Interrupted {
-        Stop::Interrupted
-    } else {
-        Stop::Failed
-    }
-}
-
-/// One read. It is split off so that the loop of `read_again` sees one relation.
-fn read_or_stop<R: Read>(reader: &mut R, buf: &mut [u8]) -> Result<usize, Stop>
+/// One read. It is split off so that the loop of `read_or_error` sees one relation.
+fn read_some<R: Read>(reader: &mut R, buf: &mut [u8]) -> Result<usize, Error>
     ensures within { IfOk result (λ n. n ≤ length buf.new) }
     ensures bytes { IfOk result (λ n.
         Reads n buf.new (R.remaining reader.old) (R.remaining reader.new)) }
@@ -39,12 +26,13 @@ fn read_or_stop<R: Read>(reader: &mut R, buf: &mut [u8]) -> Result<usize, Stop>
 {
     match reader.read(buf) {
         Ok(taken) => Ok(taken),
-        Err(error) => Err(kind_of_stop(&error)),
+        Err(error) => Err(error),
     }
 }
 
-/// One write. It is split off so that the loop of `write_again` sees one relation.
-fn write_or_stop<W: Write>(writer: &mut W, bytes: &[u8]) -> Result<usize, Stop>
+/// One write that takes none of some bytes is an error. It is split off so that the loop of
+/// `write_or_error` sees one relation.
+fn write_some<W: Write>(writer: &mut W, bytes: &[u8]) -> Result<usize, Error>
     ensures within { IfOk result (λ n. n ≤ length bytes.now) }
     ensures some { IfOk result (λ n. 0 < length bytes.now → 0 < n) }
     ensures taken { IfOk result (λ n.
@@ -53,13 +41,51 @@ fn write_or_stop<W: Write>(writer: &mut W, bytes: &[u8]) -> Result<usize, Stop>
 {
     match writer.write(bytes) {
         Ok(taken) if taken > 0 || bytes.is_empty() => Ok(taken),
-        Ok(_) => Err(Stop::Failed),
-        Err(error) => Err(kind_of_stop(&error)),
+        Ok(_) => Err(Error::from(ErrorKind::WriteZero)),
+        Err(error) => Err(error),
     }
 }
 
-/// Reads once. A read that a signal interrupts is made again, `RETRIES` times at most. Any
-/// other error fails.
+/// Reads once. A read that a signal interrupts is made again, `RETRIES` times at most. The error
+/// is the system's, of the last try.
+pub fn read_or_error<R: Read>(reader: &mut R, buf: &mut [u8]) -> Result<usize, Error>
+    ensures within { IfOk result (λ n. n ≤ length buf.new) }
+    ensures bytes { IfOk result (λ n.
+        Reads n buf.new (R.remaining reader.old) (R.remaining reader.new)) }
+    ensures end { result ≡ Ok 0 → 0 < length buf.old →
+        IfSome (R.remaining reader.old) (λ left. left ≡ []) }
+    ensures err { OnErr result (Keeps (R.remaining reader.old) (R.remaining reader.new)) }
+{
+    'tries: for _ in 0..RETRIES {
+        match read_some(reader, buf) {
+            Ok(taken) => return Ok(taken),
+            Err(error) if is_interrupted(&error) => {}
+            Err(error) => return Err(error),
+        }
+    }
+    read_some(reader, buf)
+}
+
+/// Writes once. A write that a signal interrupts is made again, `RETRIES` times at most. The
+/// error is the system's, of the last try; a write that takes none of some bytes is one too.
+pub fn write_or_error<W: Write>(writer: &mut W, bytes: &[u8]) -> Result<usize, Error>
+    ensures within { IfOk result (λ n. n ≤ length bytes.now) }
+    ensures some { IfOk result (λ n. 0 < length bytes.now → 0 < n) }
+    ensures taken { IfOk result (λ n.
+        Adds (take n bytes.now) (W.contents writer.old) (W.contents writer.new)) }
+    ensures err { OnErr result (Keeps (W.contents writer.old) (W.contents writer.new)) }
+{
+    'tries: for _ in 0..RETRIES {
+        match write_some(writer, bytes) {
+            Ok(taken) => return Ok(taken),
+            Err(error) if is_interrupted(&error) => {}
+            Err(error) => return Err(error),
+        }
+    }
+    write_some(writer, bytes)
+}
+
+/// Reads once, as `read_or_error` does, and says of an error that the call failed.
 pub fn read_again<R: Read>(reader: &mut R, buf: &mut [u8]) -> Result<usize, Failed>
     ensures within { IfOk result (λ n. n ≤ length buf.new) }
     ensures bytes { IfOk result (λ n.
@@ -68,18 +94,13 @@ pub fn read_again<R: Read>(reader: &mut R, buf: &mut [u8]) -> Result<usize, Fail
         IfSome (R.remaining reader.old) (λ left. left ≡ []) }
     ensures err { OnErr result (Keeps (R.remaining reader.old) (R.remaining reader.new)) }
 {
-    'tries: for _ in 0..RETRIES + 1 {
-        match read_or_stop(reader, buf) {
-            Ok(taken) => return Ok(taken),
-            Err(Stop::Interrupted) => {}
-            Err(Stop::Failed) => return Err(Failed),
-        }
+    match read_or_error(reader, buf) {
+        Ok(taken) => Ok(taken),
+        Err(_) => Err(Failed),
     }
-    Err(Failed)
 }
 
-/// Writes once. A write that a signal interrupts is made again, `RETRIES` times at most. Any
-/// other error fails, and so does a write that takes none of some bytes.
+/// Writes once, as `write_or_error` does, and says of an error that the call failed.
 pub fn write_again<W: Write>(writer: &mut W, bytes: &[u8]) -> Result<usize, Failed>
     ensures within { IfOk result (λ n. n ≤ length bytes.now) }
     ensures some { IfOk result (λ n. 0 < length bytes.now → 0 < n) }
@@ -87,12 +108,8 @@ pub fn write_again<W: Write>(writer: &mut W, bytes: &[u8]) -> Result<usize, Fail
         Adds (take n bytes.now) (W.contents writer.old) (W.contents writer.new)) }
     ensures err { OnErr result (Keeps (W.contents writer.old) (W.contents writer.new)) }
 {
-    'tries: for _ in 0..RETRIES + 1 {
-        match write_or_stop(writer, bytes) {
-            Ok(taken) => return Ok(taken),
-            Err(Stop::Interrupted) => {}
-            Err(Stop::Failed) => return Err(Failed),
-        }
+    match write_or_error(writer, bytes) {
+        Ok(taken) => Ok(taken),
+        Err(_) => Err(Failed),
     }
-    Err(Failed)
 }

@@ -3,10 +3,10 @@
 ghost use Rattle.std.specs.Prelude.{◌≡◌};
 
 use crate::faults::one_more;
-use crate::retry::write_again;
+use crate::retry::write_or_error;
 use crate::sink::Sink;
 use crate::source::Failed;
-use std::io::Write;
+use std::io::{Error, Write};
 
 /// A writer as a sink. It tells what the writer tells of its bytes. A write that takes none
 /// of some bytes is an edge fault. One that a signal interrupts is made again, at most 16
@@ -20,6 +20,8 @@ pub struct StdSink<W> {
     writer: W,
     /// How many calls failed. At its type's end it stands still.
     faults: u64,
+    /// The system's error of the last call that failed.
+    error: Option<Error>,
 }
 
 impl<W: Write> StdSink<W> {
@@ -28,7 +30,11 @@ impl<W: Write> StdSink<W> {
         ensures contents { ⟦<StdSink<W> as Sink>⟧.contents result ≡ W.contents writer }
         ensures faults { ⟦<StdSink<W> as Sink>⟧.faults result ≡ 0 }
     {
-        StdSink { writer, faults: 0 }
+        StdSink {
+            writer,
+            faults: 0,
+            error: None,
+        }
     }
 
     /// How many calls failed. At its type's end the count stands still.
@@ -36,6 +42,11 @@ impl<W: Write> StdSink<W> {
         ensures { ⟦<StdSink<W> as Sink>⟧.faults self.now ≡ result }
     {
         self.faults
+    }
+
+    /// The system's error of the last call that failed, if one did. No clause says what it is.
+    pub fn last_error(&self) -> Option<Error> {
+        self.error
     }
 }
 
@@ -46,9 +57,10 @@ impl<W: Write> Sink for StdSink<W> {
 
     /// Writes to the writer. Its error is an edge fault.
     fn write(&mut self, bytes: &[u8]) -> Result<usize, Failed> {
-        match write_again(&mut self.writer, bytes) {
+        match write_or_error(&mut self.writer, bytes) {
             Ok(taken) => Ok(taken),
-            Err(Failed) => {
+            Err(error) => {
+                self.error = Some(error);
                 self.faults = one_more(self.faults);
                 Err(Failed)
             }

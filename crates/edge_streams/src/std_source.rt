@@ -3,9 +3,9 @@
 ghost use Rattle.std.specs.Prelude.{◌≡◌};
 
 use crate::faults::one_more;
-use crate::retry::read_again;
+use crate::retry::read_or_error;
 use crate::source::{Failed, Source};
-use std::io::Read;
+use std::io::{Error, Read};
 
 /// A reader as a source. It tells what the reader tells of its bytes. A read that a signal
 /// interrupts is made again, at most 16 times.
@@ -17,6 +17,8 @@ pub struct StdSource<R> {
     reader: R,
     /// How many calls failed. At its type's end it stands still.
     faults: u64,
+    /// The system's error of the last call that failed.
+    error: Option<Error>,
 }
 
 impl<R: Read> StdSource<R> {
@@ -25,7 +27,11 @@ impl<R: Read> StdSource<R> {
         ensures remaining { ⟦<StdSource<R> as Source>⟧.remaining result ≡ R.remaining reader }
         ensures faults { ⟦<StdSource<R> as Source>⟧.faults result ≡ 0 }
     {
-        StdSource { reader, faults: 0 }
+        StdSource {
+            reader,
+            faults: 0,
+            error: None,
+        }
     }
 
     /// How many calls failed. At its type's end the count stands still.
@@ -33,6 +39,11 @@ impl<R: Read> StdSource<R> {
         ensures { ⟦<StdSource<R> as Source>⟧.faults self.now ≡ result }
     {
         self.faults
+    }
+
+    /// The system's error of the last call that failed, if one did. No clause says what it is.
+    pub fn last_error(&self) -> Option<Error> {
+        self.error
     }
 }
 
@@ -43,9 +54,10 @@ impl<R: Read> Source for StdSource<R> {
 
     /// Reads from the reader. Its error is an edge fault.
     fn read(&mut self, buf: &mut [u8]) -> Result<usize, Failed> {
-        match read_again(&mut self.reader, buf) {
+        match read_or_error(&mut self.reader, buf) {
             Ok(taken) => Ok(taken),
-            Err(Failed) => {
+            Err(error) => {
+                self.error = Some(error);
                 self.faults = one_more(self.faults);
                 Err(Failed)
             }

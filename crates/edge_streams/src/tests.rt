@@ -41,6 +41,11 @@ fn the_system_refuses_a_write(rt: HostRuntime) -> Result<(), Fail> {
     let cut = write_all(&mut sink, TEXT).err();
     assert_eq!(rt; cut, Some(Cut { written: 0 }));
     assert_eq!(rt; sink.faults(), 1);
+    // 9 is EBADF.
+    assert_eq!(rt;
+        sink.last_error().and_then(|error| error.raw_os_error()),
+        Some(9)
+    );
     fs::remove_file(&rt, "read_only")?;
     Ok(())
 }
@@ -190,4 +195,23 @@ fn no_bytes_are_written(rt: HostRuntime) {
     });
     assert_eq!(rt; sink.write(&[]), Ok(0));
     assert_eq!(rt; sink.faults(), 0);
+}
+
+/// An adapter keeps the error of its last call that failed.
+#[test]
+fn the_last_error_is_kept(rt: HostRuntime) {
+    let kind = Some(ErrorKind::TimedOut);
+    let mut source = StdSource::new(Faulty { kind, times: 1 });
+    assert_eq!(rt; source.last_error().map(|error| error.kind()), None);
+    assert_eq!(rt; source.read(&mut [0; 6]).ok(), None);
+    assert_eq!(rt; source.read(&mut [0; 6]).ok(), Some(6));
+    assert_eq!(rt; source.last_error().map(|error| error.kind()), kind);
+    let mut sink = StdSink::new(Faulty {
+        kind: None,
+        times: 1,
+    });
+    assert_eq!(rt; sink.last_error().map(|error| error.kind()), None);
+    assert_eq!(rt; sink.write(TEXT).ok(), None);
+    let zero = Some(ErrorKind::WriteZero);
+    assert_eq!(rt; sink.last_error().map(|error| error.kind()), zero);
 }

@@ -163,7 +163,7 @@ const CODE_SEEN: Seen = (0x1_0000, 5, 0x1000, 8);
 const ZEROS_SEEN: Seen = (0x2_0000, 6, 0x100, 0);
 
 /// Edits of the file, and the entry and segments that are read then.
-const ACCEPTED: [([Edit; 4], u64, [Option<Seen>; 2]); 9] = [
+const ACCEPTED: [([Edit; 4], u64, [Option<Seen>; 2]); 10] = [
     ([NONE; 4], 0x1_0000, [Some(CODE_SEEN), Some(ZEROS_SEEN)]),
     // No file byte, at an offset that is in no file.
     (
@@ -199,6 +199,17 @@ const ACCEPTED: [([Edit; 4], u64, [Option<Seen>; 2]); 9] = [
         [(ZEROS + P_VADDR, 8, 0x3f_bfff_ff00), NONE, NONE, NONE],
         0x1_0000,
         [Some(CODE_SEEN), Some((0x3f_bfff_ff00, 6, 0x100, 0))],
+    ),
+    // Memory up to the highest address, most of all addresses.
+    (
+        [
+            (ZEROS + P_VADDR, 8, 0x1000_0000),
+            (ZEROS + P_MEMSZ, 8, 0x3f_b000_0000),
+            NONE,
+            NONE,
+        ],
+        0x1_0000,
+        [Some(CODE_SEEN), Some((0x1000_0000, 6, 0x3f_b000_0000, 0))],
     ),
     // The last instruction of the code's page, behind its last byte.
     (
@@ -342,29 +353,105 @@ fn counts_bytes_of_the_file(rt: HostRuntime) -> Result<(), Fail> {
     Ok(())
 }
 
+/// Edits that load 0x80_0000 bytes of the file, and a byte more once again.
+const MORE_LOADED: [Edit; 6] = [
+    (CODE + P_OFFSET, 8, 0),
+    (CODE + P_FILESZ, 8, 0x80_0000),
+    (CODE + P_MEMSZ, 8, 0x80_0000),
+    (ZEROS + P_VADDR, 8, 0x100_0000),
+    (ZEROS + P_FILESZ, 8, 0x80_0001),
+    (ZEROS + P_MEMSZ, 8, 0x80_0001),
+];
+
 #[test]
 fn counts_file_bytes_that_are_loaded(rt: HostRuntime) -> Result<(), Fail> {
     for (size, expected) in [(0x80_0000, None), (0x80_0001, Some(ElfFault::TooBig))] {
         let mut long = long_file(rt.alloc(), 0x80_0001)?;
-        for edit in [
-            (CODE + P_OFFSET, 8, 0),
-            (CODE + P_FILESZ, 8, 0x80_0000),
-            (CODE + P_MEMSZ, 8, 0x80_0000),
-            (ZEROS + P_VADDR, 8, 0x100_0000),
-            (ZEROS + P_FILESZ, 8, size),
-            (ZEROS + P_MEMSZ, 8, size),
-        ] {
+        for edit in MORE_LOADED {
             put(&mut long, edit);
         }
+        put(&mut long, (ZEROS + P_FILESZ, 8, size));
+        put(&mut long, (ZEROS + P_MEMSZ, 8, size));
         assert_eq!(rt; fault(rt.alloc(), &long), expected, "at {size}");
     }
     Ok(())
 }
 
+/// Of two faults the earlier: a segment that is too low as well, and one that is longer in the file
+/// than in memory.
+#[test]
+fn counts_them_behind_ranges_and_before_addresses(rt: HostRuntime) -> Result<(), Fail> {
+    let rows = [
+        ((ZEROS + P_VADDR, 8, 0xfff), ElfFault::TooBig),
+        ((ZEROS + P_VADDR, 8, 0x1_0000), ElfFault::TooBig),
+        ((ZEROS + P_MEMSZ, 8, 0x80_0000), ElfFault::SegmentRange),
+    ];
+    for (edit, expected) in rows {
+        let mut long = long_file(rt.alloc(), 0x80_0001)?;
+        for edit in MORE_LOADED {
+            put(&mut long, edit);
+        }
+        put(&mut long, edit);
+        assert_eq!(rt; fault(rt.alloc(), &long), Some(expected), "at {edit:?}");
+    }
+    Ok(())
+}
+
+/// Seventeen PT_LOADs, of which the first has a file byte more than memory.
+#[test]
+fn counts_loads_before_ranges(rt: HostRuntime) {
+    let mut long = with_loads(17);
+    put(&mut long, (64 + P_FILESZ, 8, 1));
+    assert_eq!(rt; fault(rt.alloc(), &long), Some(ElfFault::TooBig));
+    put(&mut long, (E_PHNUM, 2, 16));
+    assert_eq!(rt; fault(rt.alloc(), &long), Some(ElfFault::SegmentRange));
+}
+
+/// A file of 16,777,216 bytes, all of which are loaded from the address of the zeros on.
+#[test]
+fn loads_all_of_the_longest_file(rt: HostRuntime) -> Result<(), Fail> {
+    let mut longest = long_file(rt.alloc(), 0x100_0000)?;
+    for edit in [
+        (CODE, 4, 0),
+        (ZEROS + P_FLAGS, 4, 5),
+        (ZEROS + P_VADDR, 8, 0x1_0001),
+        (ZEROS + P_FILESZ, 8, 0x100_0000),
+        (ZEROS + P_MEMSZ, 8, 0x100_0000),
+    ] {
+        put(&mut longest, edit);
+    }
+    let segments = read_image(rt.alloc(), &longest)?.segments.into_vec();
+    assert_eq!(rt;
+        segments.first().map(seen),
+        Some((0x1_0001, 5, 0x100_0000, 0x100_0000))
+    );
+    Ok(())
+}
+
+/// Each fault, as it is printed.
+const NAMES: [(ElfFault, &str); 14] = [
+    (ElfFault::Short, "Short"),
+    (ElfFault::TooBig, "TooBig"),
+    (ElfFault::Magic, "Magic"),
+    (ElfFault::Class, "Class"),
+    (ElfFault::Order, "Order"),
+    (ElfFault::FileKind, "FileKind"),
+    (ElfFault::Machine, "Machine"),
+    (ElfFault::HeaderSize, "HeaderSize"),
+    (ElfFault::ProgramHeader, "ProgramHeader"),
+    (ElfFault::SegmentRange, "SegmentRange"),
+    (ElfFault::Address, "Address"),
+    (ElfFault::Overlap, "Overlap"),
+    (ElfFault::Entry, "Entry"),
+    (ElfFault::Memory, "Memory"),
+];
+
 #[test]
 fn names_faults(rt: HostRuntime) -> Result<(), Fail> {
-    let text = format!(in rt.alloc(); "{} {}", ElfFault::Short, ElfFault::SegmentRange)?;
-    assert_eq!(rt; text.as_str(), "Short SegmentRange");
+    for (fault, name) in NAMES {
+        let text = format!(in rt.alloc(); "{fault}")?;
+        assert_eq!(rt; text.as_str(), name);
+    }
     assert_eq!(rt; ImageFault::of(ElfFault::Memory), None);
     let short = ImageFault::of(ElfFault::Short).map(|fault| fault.fault);
     assert_eq!(rt; short, Some(ElfFault::Short));

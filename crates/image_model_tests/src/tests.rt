@@ -78,7 +78,7 @@ fn is_valid(alloc: Global, entry: u64, rows: &[Row]) -> Result<bool, AllocError>
 #[test]
 fn valid_images(rt: HostRuntime) -> Result<(), Fail> {
     let alloc = rt.alloc();
-    let rows: [(u64, [Row; 2]); 7] = [
+    let rows: [(u64, [Row; 2]); 8] = [
         // Code and data that touch.
         (0x1000, [CODE, (0x2000, 6, 0x1000, 0x1000)]),
         // The last instruction of a page, whose first byte alone is the code's.
@@ -90,6 +90,7 @@ fn valid_images(rt: HostRuntime) -> Result<(), Fail> {
         // Up to the highest address, in falling order.
         (0x1000, [(0x3f_bfff_f000, 6, 0x1000, 0), CODE]),
         (0x1000, [CODE, (0x2000, 6, 0x3f_bfff_e000, 0)]),
+        (0x1000, [CODE, (0x1000_0000, 6, 0x3f_b000_0000, 0)]),
         // A file of 16,777,216 bytes.
         (0x1000, [CODE, (0x2000, 6, 0x100_0000, 16_777_032)]),
     ];

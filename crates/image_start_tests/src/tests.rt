@@ -6,14 +6,14 @@ use std::alloc::{AllocError, Global};
 use std::test::Fail;
 
 // The flags of segments.
-const X: u32 = 1;
+pub const X: u32 = 1;
 
-const W: u32 = 2;
+pub const W: u32 = 2;
 
-const R: u32 = 4;
+pub const R: u32 = 4;
 
 /// A segment with first bytes.
-fn segment(
+pub fn segment(
     alloc: Global,
     at: u64,
     flags: u32,
@@ -30,7 +30,7 @@ fn segment(
 }
 
 /// The start of an image of the segments, and a stack of so many bytes.
-fn started(alloc: Global, segments: Vec<Segment>, stack: u64) -> Result<Start, AllocError> {
+pub fn started(alloc: Global, segments: Vec<Segment>, stack: u64) -> Result<Start, AllocError> {
     let image = Image {
         entry: 0x1_0000,
         segments: Segments::from_vec(segments),
@@ -39,7 +39,7 @@ fn started(alloc: Global, segments: Vec<Segment>, stack: u64) -> Result<Start, A
 }
 
 /// Pages that may be read, and also written or executed.
-fn readable(page: u64, count: u64, w: bool, x: bool) -> Region {
+pub fn readable(page: u64, count: u64, w: bool, x: bool) -> Region {
     Region {
         page,
         count,
@@ -50,12 +50,12 @@ fn readable(page: u64, count: u64, w: bool, x: bool) -> Region {
 }
 
 /// The number of the page at the index of the start's pages.
-fn page(start: &Start, index: usize) -> Option<u64> {
+pub fn page(start: &Start, index: usize) -> Option<u64> {
     Some(start.pages().get(index)?.page)
 }
 
 /// A byte of the page at the index of the start's pages.
-fn byte(start: &Start, index: usize, at: usize) -> Option<u8> {
+pub fn byte(start: &Start, index: usize, at: usize) -> Option<u8> {
     start.pages().get(index)?.bytes.as_slice().get(at).copied()
 }
 

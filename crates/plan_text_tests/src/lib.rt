@@ -2,4 +2,8 @@
 #![tactic(auto)]
 
 #[cfg(test)]
+mod fault_tests;
+#[cfg(test)]
+mod order_tests;
+#[cfg(test)]
 mod tests;

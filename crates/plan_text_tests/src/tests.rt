@@ -23,7 +23,7 @@ const THREE: &str = "frames = 64\nworkers = 2\nidle = 1\nlayers = 3\nstack = 819
 const TOP_LAYER: &str = ";trigger = 4096;[[layer]];name = \"top\";image = ";
 
 /// The text of a plan's top table, but for its layers and functions.
-const TOP: &str = "frames = 64\nworkers = 1\nidle = 1\nlayers = 1\n";
+pub const TOP: &str = "frames = 64\nworkers = 1\nidle = 1\nlayers = 1\n";
 
 /// The header of an ELF file with two segments whose run begins at 0x10000.
 const HEADER: &[u8] = b"\x7fELF\x02\x01\x01\0\0\0\0\0\0\0\0\0\
@@ -35,31 +35,29 @@ const CODE: &[u8] = b"\x73\0\0\0\x73\0\0\0\x73\0\0\0\x73\0\0\0\x73\0\0\0\x73\0\0
     \x73\0\0\0\x73\0\0\0\x73\0\0\0\x73\0\0\0\x73\0\0\0\x73\0\0\0\
     \x73\0\0\0\x73\0\0\0\x73\0\0\0\x73\0\0\0\x73\0\0\0";
 
-/// Adds the header of a segment with these flags at this address, of so many bytes from offset
-/// 176 on.
+/// Adds the header of a segment of 0x1000 bytes with these flags at this address, of which so many
+/// stand in the file from offset 176 on.
 fn add_segment(file: &mut Vec<u8>, flags: u32, at: u32, size: u32) -> Result<(), AllocError> {
-    let memory = size.max(0x1000);
-    for word in [1, flags, 176, 0, at, 0, at, 0, size, 0, memory, 0, 1, 0] {
+    for word in [1, flags, 176, 0, at, 0, at, 0, size, 0, 0x1000, 0, 1, 0] {
         file.extend_from_slice(&word.to_le_bytes())?;
     }
     Ok(())
 }
 
-/// An ELF file with code at 0x10000 and data at 0x1000000, of so many bytes from offset 176 on.
-/// The file has 68 of them.
-fn image_file(alloc: Global, code: u32, data: u32) -> Result<Vec<u8>, AllocError> {
+/// An ELF file with code of 68 bytes at 0x10000, and data at 0x1000000 without a byte.
+fn image_file(alloc: Global) -> Result<Vec<u8>, AllocError> {
     let mut file = HEADER.to_vec(alloc)?;
-    add_segment(&mut file, 5, 0x10000, code)?;
-    add_segment(&mut file, 6, 0x100_0000, data)?;
+    add_segment(&mut file, 5, 0x10000, 68)?;
+    add_segment(&mut file, 6, 0x100_0000, 0)?;
     file.extend_from_slice(CODE)?;
     Ok(file)
 }
 
 /// Files: a good image, and its first 63 bytes.
-fn files(alloc: Global) -> Result<MemFiles, AllocError> {
+pub fn files(alloc: Global) -> Result<MemFiles, AllocError> {
     let mut files = MemFiles::new(alloc, Vec::new(alloc));
-    files.add("count.elf", image_file(alloc, 68, 0)?)?;
-    let mut short = image_file(alloc, 68, 0)?;
+    files.add("count.elf", image_file(alloc)?)?;
+    let mut short = image_file(alloc)?;
     short.truncate(63);
     files.add("short.elf", short)?;
     Ok(files)
@@ -80,7 +78,7 @@ fn changed(alloc: Global, old: &str, new: &str) -> Result<String, AllocError> {
 }
 
 /// What a text and the files are: `ok`, or the fault.
-fn answer(alloc: Global, text: &[u8], files: &mut MemFiles) -> Result<String, AllocError> {
+pub fn answer(alloc: Global, text: &[u8], files: &mut MemFiles) -> Result<String, AllocError> {
     match read_plan(alloc, text, files) {
         Ok(_) => String::from_str(alloc, "ok"),
         Err(fault) => format!(in alloc; "{fault}"),
@@ -173,61 +171,24 @@ fn a_key_is_shown_up_to_its_first_64_bytes(rt: HostRuntime) -> Result<(), Fail> 
     Ok(())
 }
 
-/// Adds a layer with the image of the file.
-fn add_layer(alloc: Global, text: &mut String, number: u32, file: &str) -> Result<(), AllocError> {
-    let layer = format!(in alloc;
-        "[[layer]]\nname = \"l{number}\"\nimage = \"{file}\"\ntrigger = 4096\n"
-    )?;
-    text.push_str(layer.as_str())
-}
-
-/// A plan of so many layers with the image of one file.
-fn layers_on(alloc: Global, file: &str, count: u32) -> Result<String, AllocError> {
-    let mut text = String::from_str(alloc, TOP)?;
-    for number in 0..count {
-        add_layer(alloc, &mut text, number, file)?;
-    }
-    text.push_str("[[function]]\nname = \"f\"\nlayer = \"l0\"\n")?;
-    Ok(text)
-}
-
-/// An image's file with so many bytes behind it.
-fn longer(alloc: Global, size: u32, more: usize) -> Result<Vec<u8>, AllocError> {
-    let mut file = image_file(alloc, size, size)?;
-    file.extend_from_slice(&vec![in alloc; 0; more]?)?;
-    Ok(file)
-}
-
-/// Files whose images are at the limits: one of 16,777,216 bytes, one of a byte more, and one with
-/// 16,777,216 bytes in its segments and half of them in the file.
-fn large_files(alloc: Global) -> Result<MemFiles, AllocError> {
-    let mut files = files(alloc)?;
-    files.add("large.elf", longer(alloc, 68, 16_777_216 - 244)?)?;
-    files.add("huge.elf", longer(alloc, 68, 16_777_217 - 244)?)?;
-    files.add("twice.elf", longer(alloc, 0x80_0000, 0x80_0000)?)?;
-    Ok(files)
-}
-
-/// Files, how many layers have their images, and the answer.
-const LARGE: [(&str, u32, &str); 7] = [
-    ("count.elf", 64, "ok"),
-    ("count.elf", 65, "Range layer"),
-    ("large.elf", 4, "ok"),
-    ("large.elf", 5, "Image TooBig"),
-    ("huge.elf", 1, "Image TooBig"),
-    // The files are small enough, and what is loaded of them isn't.
-    ("twice.elf", 4, "ok"),
-    ("twice.elf", 5, "Image TooBig"),
-];
+/// The numbers of `COUNT`, and the defaults of all that it leaves out.
+const DEFAULTS: Numbers = Numbers {
+    frames: 64,
+    workers: 1,
+    idle: 1,
+    room: 1,
+    uses: 64,
+    budget: 1_000_000,
+    prepare: 10_000_000,
+    stack_bytes: 65_536,
+    clock: 0,
+    serve: 4_096,
+};
 
 #[test]
-fn as_many_and_as_large_as_may_be(rt: HostRuntime) -> Result<(), Fail> {
-    let mut files = large_files(rt.alloc())?;
-    for (file, count, want) in LARGE {
-        let text = layers_on(rt.alloc(), file, count)?;
-        let got = answer(rt.alloc(), text.as_bytes(), &mut files)?;
-        assert!(rt; got.as_str() == want);
-    }
+fn a_plan_has_the_defaults(rt: HostRuntime) -> Result<(), Fail> {
+    let plan = read_plan(rt.alloc(), COUNT.as_bytes(), &mut files(rt.alloc())?)?;
+    assert!(rt; *plan.numbers() == DEFAULTS);
     Ok(())
 }
 

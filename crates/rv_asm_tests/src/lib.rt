@@ -2,7 +2,13 @@
 #![tactic(auto)]
 
 #[cfg(test)]
+mod limit_tests;
+#[cfg(test)]
 mod line_tests;
+#[cfg(test)]
+mod mnemonic_rows;
+#[cfg(test)]
+mod mnemonic_tests;
 #[cfg(test)]
 mod rows;
 #[cfg(test)]

@@ -5,7 +5,7 @@ use asm_lines::{AsmKind, Data, Statement, read_statement};
 use std::test::Fail;
 
 /// The word that a line within a segment says, or none where it says something else.
-fn word_of(line: &str) -> Option<u32> {
+pub fn word_of(line: &str) -> Option<u32> {
     match read_statement(true, line.as_bytes()) {
         Ok(Statement::Data(Data::Word(word))) => Some(word),
         Ok(_) | Err(_) => None,
@@ -82,6 +82,16 @@ fn statements(rt: HostRuntime) {
         matches!(
             read_statement(true, b".zero 0x10"),
             Ok(Statement::Data(Data::Zeros(16)))
+        )
+    );
+    assert!(rt;
+        matches!(
+            read_statement(false, b".segment 0xffffffffffffffff w 0xffffffffffffffff"),
+            Ok(Statement::Segment {
+                at: u64::MAX,
+                flags: 2,
+                size: u64::MAX
+            })
         )
     );
 }

@@ -46,6 +46,8 @@ pub const ROWS: &str = "\
     2 BadNumber|.segment 0x10000 rx 64|addi x1, x0, 01\n\
     2 BadNumber|.segment 0x10000 rx 64|addi x1, x0, 0x\n\
     2 BadNumber|.segment 0x10000 rx 64|addi x1, x0, 0X1\n\
+    2 BadNumber|.segment 0x10000 rx 64|addi x1, x0, 0xg\n\
+    3 BadNumber|.segment 0x10000 rx 64|ecall|addi x1, x0, -0x1g\n\
     2 BadNumber|.segment 0x10000 rx 64|addi x1, x0, +1\n\
     2 BadNumber|.segment 0x10000 rx 64|addi x1, x0, --1\n\
     2 BadNumber|.segment 0x10000 rx 64|addi x1, x0, -\n\
@@ -78,6 +80,8 @@ pub const ROWS: &str = "\
     1 OutOfRange|.segment -1 rx 64\n\
     1 OutOfRange|.segment 18446744073709551616 rx 64\n\
     1 OutOfRange|.segment 0 rx 18446744073709551616\n\
+    1 BadShape|.segment 0x10000 rx 18446744073709551615\n\
+    1 BadShape|.segment 0x10000 rx 0xffffffffffffffff\n\
     5 OutOfRange|.segment 0x10000 rx 64|.byte 0|a:|.byte 0|beq x0, x0, a\n\
     4 TwiceDefined|.segment 0x10000 rx 64|a:|ecall|a:\n\
     3 TwiceDefined|.segment 0x10000 rx 64|.entry a|.entry a\n\
@@ -119,6 +123,8 @@ pub const ROWS: &str = "\
     ok|.segment 0x10000 rx 64|.word 4294967295|.word -2147483648\n\
     ok|.segment 0x10000 rx 64|.zero 64\n\
     ok|.segment 0x10000 rx 64|.zero 0\n\
+    ok|.segment 0x10000 rx 0x1000000|.zero 16777096\n\
+    2 BadShape|.segment 0x10000 rx 0x1000000|.zero 16777097\n\
     ok|.segment 0x1000 x 1\n\
     ok|.segment 0x1000 x 4|.segment 0x3fbfffffff x 1\n\
     1 BadShape|.segment 0x3fc0000000 x 4\n\

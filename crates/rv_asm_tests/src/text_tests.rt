@@ -75,3 +75,23 @@ fn a_fault_as_text(rt: HostRuntime) -> Result<(), Fail> {
     assert_eq!(rt; shown.as_str(), "line 2 UnknownName");
     Ok(())
 }
+
+#[test]
+fn each_fault_as_text(rt: HostRuntime) -> Result<(), Fail> {
+    let rows = [
+        (AsmKind::BadShape, "line 4294967295 BadShape"),
+        (AsmKind::UnknownName, "line 4294967295 UnknownName"),
+        (AsmKind::BadNumber, "line 4294967295 BadNumber"),
+        (AsmKind::OutOfRange, "line 4294967295 OutOfRange"),
+        (AsmKind::TwiceDefined, "line 4294967295 TwiceDefined"),
+        (AsmKind::Undefined, "line 4294967295 Undefined"),
+    ];
+    for (kind, text) in rows {
+        let line = u32::MAX;
+        let shown = AsmFault::At { line, kind }.to_string(rt.alloc())?;
+        assert_eq!(rt; shown.as_str(), text);
+    }
+    let shown = AsmFault::Memory.to_string(rt.alloc())?;
+    assert_eq!(rt; shown.as_str(), "out of memory");
+    Ok(())
+}

@@ -465,6 +465,100 @@ fn lists_an_image(rt: HostRuntime) -> Result<(), Fail> {
     Ok(())
 }
 
+/// A word of each shape of line, as GNU's assembler has it of the text, and one that is none.
+const SHAPES: &[u32] = &[
+    0x0000_0073,
+    0xffff_ffb7,
+    0xffdf_f0ef,
+    0xff83_3283,
+    0x7ec6_bfa3,
+    0x8004_0393,
+    0x80f7_0063,
+    0x02b5_24b3,
+    0x41f8_d81b,
+    0x0ff0_000f,
+    0xffff_ffff,
+];
+
+const SHAPE_LINES: &str = "10000 00000073 ecall\n10004 ffffffb7 lui x31, 1048575\n\
+    10008 ffdff0ef jal x1, -4\n1000c ff833283 ld x5, -8(x6)\n\
+    10010 7ec6bfa3 sd x12, 2047(x13)\n10014 80040393 addi x7, x8, -2048\n\
+    10018 80f70063 beq x14, x15, -4096\n1001c 02b524b3 mulhsu x9, x10, x11\n\
+    10020 41f8d81b sraiw x16, x17, 31\n10024 0ff0000f fence x0, x0, 255\n\
+    10028 ffffffff .word 0xffffffff\n";
+
+#[test]
+fn lists_each_shape(rt: HostRuntime) -> Result<(), Fail> {
+    let file = image_file(rt.alloc(), SHAPES, 0x1000)?;
+    check(&rt, &["dis"], &[], &file, NONE, (0, SHAPE_LINES, ""))?;
+    Ok(())
+}
+
+/// The lines of a second segment, which has six of the file bytes that the first has: the header
+/// that says so, which stands where the bytes of both begin.
+const SHARED_LINES: &str = "10000 00000001 .word 0x00000001\n10004 00000005 .word 0x00000005\n\
+    20000 00000001 .word 0x00000001\n20004 05 .byte 0x05\n20005 00 .byte 0x00\n";
+
+#[test]
+fn lists_bytes_that_two_segments_share(rt: HostRuntime) -> Result<(), Fail> {
+    let mut file = HEADERS.to_vec(rt.alloc())?;
+    if let Some(e_phnum) = file.get_mut(56) {
+        *e_phnum = 2;
+    }
+    add_words(&mut file, &[8, 0, 8, 0, 1, 0])?;
+    add_words(
+        &mut file,
+        &[1, 5, 0x78, 0, 0x20000, 0, 0, 0, 6, 0, 6, 0, 1, 0],
+    )?;
+    check(&rt, &["dis"], &[], &file, NONE, (0, SHARED_LINES, ""))?;
+    Ok(())
+}
+
+/// A listing that is longer than what is held back of it: whole, and where a write fails behind
+/// the first 4,100 bytes.
+#[test]
+fn lists_a_long_image(rt: HostRuntime) -> Result<(), Fail> {
+    let alloc = rt.alloc();
+    let mut file = HEADERS.to_vec(alloc)?;
+    add_words(&mut file, &[1024, 0, 1024, 0, 1, 0])?;
+    let mut lines = String::new(alloc);
+    let mut at = 0x10000_u32;
+    for _ in 0..256 {
+        add_words(&mut file, &[0x73])?;
+        lines.push_str(format!(in alloc; "{at:x} 00000073 ecall\n")?.as_str())?;
+        at = at.wrapping_add(4);
+    }
+    let whole = (0, lines.as_str(), "");
+    check(&rt, &["dis"], &[], &file, NONE, whole)?;
+    let front = lines.get(..4100).unwrap_or("");
+    let cut = (5, front, "seuss: write fault\n");
+    check(&rt, &["dis"], &[], &file, (0, 0, 1026, 0), cut)?;
+    Ok(())
+}
+
+/// An image with so many bytes behind its own, in large pieces, listed: its status and lines.
+fn longest_is_listed<R: Abort + AllocGlobal>(
+    rt: &R,
+    behind: usize,
+    (status, written): (Status, &str),
+) -> Result<(), AllocError> {
+    let mut file = image_file(rt.alloc(), TINY, 0x1000)?;
+    file.extend_from_slice(&vec![in rt.alloc(); 0; behind]?)?;
+    let mut world = in_memory(rt.alloc(), &[], &[], NONE)?;
+    world.source = MemSource::in_pieces(file, 1 << 20, plan(rt.alloc(), 0)?);
+    assert_eq!(rt; run(rt.alloc(), &["dis"], &mut world)?, status);
+    assert_eq!(rt; world.sink.as_slice(), written.as_bytes());
+    Ok(())
+}
+
+/// The longest file is listed; a longer one isn't.
+#[test]
+fn lists_the_longest_image(rt: HostRuntime) -> Result<(), Fail> {
+    longest_is_listed(&rt, 16_777_216 - 132, (0, TINY_LINES))?;
+    longest_is_listed(&rt, 16_777_217 - 132, (3, ""))?;
+    Ok(())
+}
+
 /// A source of so many bytes of a comment, in large pieces, assembled: what is said of it.
 fn comment_is_refused<R: Abort + AllocGlobal>(
     rt: &R,

@@ -48,6 +48,7 @@ layers = 1|layers = 1;budget = 1000000000|ok
 layers = 1|layers = 1;budget = 1000000001|Range budget
 layers = 1|layers = 1;prepare = \"1\"|Shape prepare
 layers = 1|layers = 1;prepare = 0|Range prepare
+layers = 1|layers = 1;prepare = 1|ok
 layers = 1|layers = 1;prepare = 1000000000|ok
 layers = 1|layers = 1;prepare = 1000000001|Range prepare
 layers = 1|layers = 1;stack = \"4096\"|Shape stack
@@ -55,10 +56,13 @@ layers = 1|layers = 1;stack = 0|Range stack
 layers = 1|layers = 1;stack = 4095|Range stack
 layers = 1|layers = 1;stack = 4096|ok
 layers = 1|layers = 1;stack = 4097|Range stack
+layers = 1|layers = 1;stack = 8191|Range stack
+layers = 1|layers = 1;stack = 8192|ok
 layers = 1|layers = 1;stack = 16777216|ok
 layers = 1|layers = 1;stack = 16781312|Range stack
 layers = 1|layers = 1;clock = \"0\"|Shape clock
 layers = 1|layers = 1;clock = -1|Range clock
+layers = 1|layers = 1;clock = 0|ok
 layers = 1|layers = 1;clock = 9223372036854775807|ok
 layers = 1|layers = 1;clock = 9223372036854775808|Toml
 layers = 1|layers = 1;serve = \"1\"|Shape serve
@@ -74,6 +78,7 @@ pub const LAYERS: &str = "name = \"count\"||Missing name
 name = \"count\"|name = 1|Shape name
 name = \"count\"|name = \"Count\"|Name
 name = \"count\"|name = \"kount\"|Name
+name = \"count\"|name = \"abcdefghijklmnopqrstuvwxyz0123456\"|Name
 image = \"count.elf\"||Missing image
 image = \"count.elf\"|image = 1|Shape image
 image = \"count.elf\"|below = 1|Shape below

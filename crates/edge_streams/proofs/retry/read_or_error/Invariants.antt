@@ -1,7 +1,7 @@
 -- What was interrupted took nothing, and the buffer keeps its length.
 use Rattle.std.proofs.Common.{◌≡◌, length}
 use Rattle.edge_streams.specs.Content.{Keeps}
-use Rattle.edge_streams.proofs.retry.read_again.Given as goal
+use Rattle.edge_streams.proofs.retry.read_or_error.Given as goal
 
 abbrev pub invariant-tries : goal.invariant-tries
 invariant-tries g l = record {
