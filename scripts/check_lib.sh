@@ -9,8 +9,9 @@ told=${CHECK_RESULTS:-$work/told}
 failures=0
 trap finish EXIT
 
-# Where expect runs its commands, and what they read.
+# Where expect runs its commands, what they read, and by what it looks at standard error.
 folder=$top
+errors_by='cat'
 : >"$work/source"
 
 finish() {
@@ -61,7 +62,8 @@ source_of() {
 }
 
 # expect NAME STATUS OUTPUT ERRORS COMMAND..: the check that the command, run in $folder
-# with $work/source as its source, ends with this status and writes exactly these bytes.
+# with $work/source as its source, ends with this status and writes exactly these bytes. Of
+# standard error it looks at what $errors_by makes of it.
 expect() {
     local name=$1 status=$2 got=0
     printf '%b' "$3" >"$work/wanted-output"
@@ -69,6 +71,7 @@ expect() {
     shift 4
     : >"$work/output"
     (cd -- "$folder" && "$@") <"$work/source" >"$work/output" 2>"$work/errors" || got=$?
+    "$errors_by" <"$work/errors" >"$work/looked-at" && mv -f -- "$work/looked-at" "$work/errors"
     if [ "$got" -eq "$status" ] && cmp -s "$work/wanted-output" "$work/output" &&
         cmp -s "$work/wanted-errors" "$work/errors"; then
         pass "$name"
@@ -78,6 +81,50 @@ expect() {
     echo "  status $got, and $status is wanted; output, and then errors (< wanted, > written):"
     diff -a "$work/wanted-output" "$work/output" | head -n 10 | cut -c1-200
     diff -a "$work/wanted-errors" "$work/errors" | head -n 10 | cut -c1-200
+}
+
+# The line of a refusal, without what is said to a person behind it.
+first_line() { head -n 1; }
+
+# transcript FILE [START [STOP]]: what stands in the file's blocks of lines `$ COMMAND`, with what
+# each prints, from the heading START up to the heading STOP.
+transcript() {
+    awk -v start="${2-}" -v stop="${3:-none}" '
+        BEGIN { on = start == "" }
+        $0 == start { on = 1 }
+        $0 == stop { exit }
+        /^```/ { inside = !inside; shown = inside && $0 == "```"; next }
+        on && shown' "$1"
+}
+
+# replay FOLDER: runs in the folder, in one shell, the commands of standard input, a transcript,
+# and prints it as it is now. A line `> ..` goes on with the command above it.
+replay() {
+    local line shown='' command=''
+    : >"$work/replayed"
+    while IFS= read -r line; do
+        case $line in
+        '$ '*)
+            replay_one
+            command=${line#??} shown=$line
+            ;;
+        '> '*) command+=$'\n'${line#??} shown+=$'\n'$line ;;
+        esac
+    done
+    replay_one
+    (cd -- "$1" && bash "$work/replayed" </dev/null 2>&1)
+}
+
+# Adds the command to those that are run.
+replay_one() {
+    [ -z "$command" ] || printf 'printf "%%s\\n" %q\n%s\n' "$shown" "$command" >>"$work/replayed"
+}
+
+# same_transcript FOLDER FILTER: whether the commands of $work/transcript print in the folder
+# what stands there, both through the filter.
+same_transcript() {
+    "$2" <"$work/transcript" >"$work/wanted"
+    [ -s "$work/wanted" ] && replay "$1" <"$work/transcript" | "$2" | diff "$work/wanted" -
 }
 
 # find_program [PATH]: sets program to a copy of the program to check, the one of that path or

@@ -27,8 +27,9 @@ exceptions() {
     cat <<'END'
 packages of Debian: gcc-riscv64-unknown-elf picolibc-riscv64-unknown-elf
 fields of ELF that nothing reads: e_flags p_paddr p_align
-of C and its compilers: qsort snprintf malloc float double __builtin_trap
-made by who reads: reverse.c out/
+of C and its compilers: malloc float double __builtin_trap
+of Rust's: rustup riscv64imac-unknown-none-elf
+made by who reads: reverse.c upper.c out/ out/look.*
 of the kit, and not used since it gets no proof: retain position IntoIter
 END
 }

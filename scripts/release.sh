@@ -16,7 +16,7 @@ CDPATH='' cd -- "$(dirname -- "${BASH_SOURCE[0]}")/.." || exit 1
 target=$(uname -m)-$(uname -s | tr '[:upper:]' '[:lower:]')
 release=dist/$target
 built=crates/seuss/out/seuss
-remedy='to make it anew, run rt ci and then scripts/release.sh --write'
+remedy='to make it anew, run scripts/version.sh --write, rt ci and scripts/release.sh --write'
 
 say() {
     printf 'release.sh: %s\n' "$*" >&2
@@ -86,6 +86,7 @@ check() {
     else
         echo "skipped: the kit of the released program, since there is no rt"
     fi
+    require_version || status=1
     if ! is_built; then
         echo "skipped: the gate's build, since $built isn't there, whole and current"
     elif ! cmp "$release/seuss" "$built" >&2; then
@@ -104,7 +105,7 @@ put() {
 
 write() {
     local text
-    require_build && text=$(note "$built") && mkdir -p "$release" &&
+    require_version && require_build && text=$(note "$built") && mkdir -p "$release" &&
         put "$release/seuss" 755 <"$built" && put "$release/built-from" 644 <<<"$text" &&
         echo "made $release of $built"
 }
@@ -112,6 +113,12 @@ write() {
 require_build() {
     is_built && return
     say "$built isn't there, whole and current: run rt ci"
+    return 1
+}
+
+require_version() {
+    scripts/version.sh --check >/dev/null && return
+    say "the program tells the digest of other sources: run scripts/version.sh --write, and rt ci"
     return 1
 }
 

@@ -7,6 +7,9 @@
 
 cross=riscv64-unknown-elf
 
+# What follows the first line is for a person; the check hints has it.
+errors_by=first_line
+
 # text TEXT: makes the source this text, as escapes.
 text() { printf '%b' "$1" >"$work/source"; }
 
@@ -72,10 +75,12 @@ makes() {
 # words_of: of lines of a listing, the address and the word, and the mnemonic of an instruction.
 words_of() { awk '{ print $1, $2, $3 }' | grep -v ' \.word$'; }
 
-# The same of another disassembler's lines `ADDRESS: WORD MNEMONIC OPERANDS`.
+# The same of another disassembler's lines `ADDRESS: WORD MNEMONIC OPERANDS`. Its `unimp` is a word
+# of a CSR, which is no instruction here.
 other_words_of() {
     awk '$1 ~ /^[0-9a-f]+:$/ && $2 ~ /^[0-9a-f]+$/ && length($2) == 8 {
-        print substr($1, 1, length($1) - 1), $2, $3 }' | grep -v ' \.\(word\|4byte\|insn\)$'
+        print substr($1, 1, length($1) - 1), $2, $3 }' |
+        grep -v ' \(\.word\|\.4byte\|\.insn\|unimp\)$'
 }
 
 # other_listing IMAGE: the lines of another disassembler. It knows code by its sections; of an image

@@ -56,6 +56,13 @@ by_base64() {
 }
 by_sha256() { sha256sum | cut -d ' ' -f 1; }
 
+# (gzip ends with the CRC, its lowest byte first, and the length.)
+by_crc32() {
+    local digits
+    digits=$(gzip -c | tail -c 8 | hex)
+    printf '%s' "${digits:6:2}${digits:4:2}${digits:2:2}${digits:0:2}" | hex
+}
+
 # check_sum FOLDER and so on: the example of the folder.
 check_sum() {
     answers "$1/sum.elf" '' '\0' '\005' '\005' '\0377\001' '\0377' '\0\001' '\0'
@@ -70,6 +77,8 @@ check_wordcount() {
 check_base64() { each_length by_base64 "$1/base64.elf" "$program"; }
 
 check_sha256() { each_length by_sha256 "$1/sha256.elf" "$program"; }
+
+check_crc32() { each_length by_crc32 "$1/crc32.elf" "$program"; }
 
 # By hand, from RFC 8259.
 check_json_field() {
@@ -118,38 +127,29 @@ check_all() {
     for name in $names; do tell "$name, $2" "check_$name" "$1"; done
 }
 
-# transcript FILE [HEADING]: what stands in the file's blocks of lines `$ COMMAND` with what each
-# prints, up to the heading.
-transcript() {
-    awk -v heading="${2:-none}" '
-        $0 == heading { exit }
-        /^```/ { inside = !inside; shown = inside && $0 == "```"; next }
-        shown' "$1"
-}
-
-# same_transcript FILTER: whether the commands of $work/transcript print in $tree what stands there,
-# both through the filter. One that needs xxd is left out, with its line.
-same_transcript() {
-    local line
-    sed '/xxd/,+1d' "$work/transcript" >"$work/wanted"
-    while IFS= read -r line; do
-        case $line in
-        '$ '*) echo "$line" && (cd -- "$tree" && bash -c "${line#??}" </dev/null 2>&1) ;;
-        esac
-    done <"$work/wanted" >"$work/printed"
-    "$1" <"$work/wanted" >"$work/wanted-1" && "$1" <"$work/printed" | diff "$work/wanted-1" -
-}
-
 examples_page() {
     transcript "$top/examples/README.md" >"$work/transcript"
-    [ "$(grep -c '^\$ ' "$work/transcript")" -ge 9 ] && same_transcript cat
+    [ "$(grep -c '^\$ ' "$work/transcript")" -ge 16 ] && same_transcript "$tree" cat
 }
 
 # Its text is compiled as it stands there. The steps are this compiler's.
 kit_page() {
-    transcript "$kit/README.md" '## How it runs' >"$work/transcript"
+    transcript "$kit/README.md" '' '## How it runs' >"$work/transcript"
     awk '/^```/ { shown = $0 == "```c"; next } shown' "$kit/README.md" >"$tree/reverse.c"
-    [ -s "$tree/reverse.c" ] && [ -s "$work/transcript" ] && same_transcript without_steps
+    [ -s "$tree/reverse.c" ] && same_transcript "$tree" without_steps
+}
+
+# The part of the page on Rust, with Debian's compiler, and what it makes.
+rust_page() {
+    transcript "$kit/README.md" '## In Rust' '## An exception' >"$work/transcript"
+    PATH=/usr/bin:$PATH same_transcript "$tree" cat && check_crc32 "$tree"
+}
+
+has_rust() {
+    [ -x /usr/bin/rustc ] && compgen -G '/usr/src/rustc-*/library/core/src/lib.rs' >/dev/null &&
+        return
+    skip "functions in Rust, since there is no rustc and rust-src of Debian's"
+    return 1
 }
 
 # Whether the stored images have their trigger where the page of the examples says.
@@ -194,7 +194,7 @@ refuses_other_code() {
 # What holds with no compiler too.
 check_words() {
     expect "no file to write" 2 '' \
-        'seuss-cc: which file to write? seuss-cc [--picolibc] -o FILE SOURCE..\n' \
+        'seuss-cc: which file to write? seuss-cc [--picolibc] -o FILE SOURCE.., or --help\n' \
         sh "$kit/seuss-cc" sum.c
     expect "no compiler" 2 '' \
         "seuss-cc: there is no $cross-gcc. Debian's package gcc-$cross has it\\n" \
@@ -221,10 +221,12 @@ find_program "$@" || exit 0
 tree=$work/tree
 mkdir -- "$tree" "$work/made" && cp -R -- "$kit" "$top/examples" "$program" "$tree" || exit 1
 LC_ALL=C tr -cd '\11-\15 -~' <"$program" | head -c 40000 >"$work/printable"
-tell "the page of the examples" examples_page
+tell_with xxd "the page of the examples" examples_page
 check_all "$top/examples" "as stored"
+tell "crc32, as stored" check_crc32 "$top/examples"
 if has "$cross-gcc" "the examples compiled anew, and the kit"; then
     check_kit
+    if has_rust; then tell "functions in Rust" rust_page; fi
     for name in $names; do tell "$name compiles" make "$name"; done
     check_all "$work/made" "compiled anew"
 fi

@@ -107,7 +107,7 @@ make_house() {
     mkdir -p -- "$kits" "$house"/{scripts,examples,"dist/$target",crates/low/src} \
         "$house"/crates/seuss/{src,specs,proofs} &&
         cp -- "$top/seuss" "$house/" &&
-        cp -- "$top/scripts/source_digest.sh" "$house/scripts/" &&
+        cp -- "$top"/scripts/{source_digest,stamp,program_path}.sh "$house/scripts/" &&
         cp -- "$top/examples/echo.elf" "$house/examples/" || return
     printf 'low:\nseuss: low\n' >"$house/crates.txt"
     echo handles >"$house/HANDLES"
@@ -120,11 +120,19 @@ make_house() {
     release "kit one"
 }
 
+# The path below the house of the released program that was put into out/.
+echo_path() {
+    local digest
+    digest=$(sh "$house/scripts/source_digest.sh") && echo "out/$digest.kit-one/seuss"
+}
+
 # Where the sources are the released ones.
 check_release() {
     local links=$work/links
     expect "the released program, with no rt" 0 'released: <call> <x>\nsource' '' \
         without_rt ./seuss call x
+    expect "the checked program's path" 0 "$house/$(echo_path)\\n" '' \
+        without_rt sh scripts/program_path.sh
     expect "again, with no more than find and cmp" 0 'released: <call> <x>\nsource' '' \
         with_tools "find cmp" ./seuss call x
     expect "each word" 0 'released: <> <a  b> <\xff> <-*> <\n>\nsource' '' \
@@ -141,6 +149,10 @@ check_release() {
         in_folder "$work/elsewhere" without_rt ../house/seuss x
     expect "a folder that CDPATH has too" 0 'released: <x>\nsource' '' \
         in_folder "$work" without_rt with_cdpath house/seuss x
+    cp -- "$house/seuss" "$work/elsewhere/copy"
+    expect "a copy outside the repository" 125 '' \
+        "seuss: ./copy is a copy outside its repository: link it, or run scripts/install.sh\\n" \
+        in_folder "$work/elsewhere" without_rt ./copy x
     expect "a launcher on the PATH" 0 'released: <x>\nsource' '' \
         in_folder "$work/elsewhere" without_rt with_house_on_path seuss x
 }
@@ -167,6 +179,20 @@ check_sources() {
     echo more >"$house/crates/low/specs/Lib.antt"
     expect "specs more" 127 '' "$no_rt" without_rt ./seuss x
     rm -r -- "$house/crates/low/specs"
+    mkdir -- "$house/crates/seuss/proofs/deep"
+    expect "a folder more is no source" 0 'released: <x>\nsource' '' without_rt ./seuss x
+    echo more >"$house/crates/seuss/proofs/deep/Answers.antt"
+    expect "a proof more, in a folder" 127 '' "$no_rt" without_rt ./seuss x
+    rm -r -- "$house/crates/seuss/proofs/deep"
+    : >"$house/crates/low/src/.lib.rt.swp"
+    ln -s nowhere "$house/crates/low/src/.#lib.rt"
+    : >"$house/crates/low/src/lib.rt~"
+    : >"$house/crates/low/src/4913"
+    expect "an editor's scratch files are no sources" 0 'released: <x>\nsource' '' \
+        without_rt ./seuss x
+    expect "again, by the look alone" 0 'released: <x>\nsource' '' \
+        with_tools "find cmp" ./seuss x
+    rm -- "$house"/crates/low/src/{.lib.rt.swp,.#lib.rt,lib.rt~,4913}
     echo other >"$house/HANDLES"
     expect "other handles" 127 '' "$no_rt" without_rt ./seuss x
     echo handles >"$house/HANDLES"
@@ -199,7 +225,8 @@ check_kits() {
     echo 'run -- call ../../examples/echo.elf' >"$work/wanted-calls"
     tell "by one rt run" cmp "$work/wanted-calls" "$work/calls"
     expect "what it built runs again" 0 'second: <x>\nsource' '' with_kit second ./seuss x
-    expect "what it built runs with no rt" 0 'second: <x>\nsource' '' without_rt ./seuss x
+    expect "with no rt, the one that was found with none" 0 'released: <x>\nsource' '' \
+        without_rt ./seuss x
     expect "the first kit again" 0 'released: <x>\nsource' '' with_kit first ./seuss x
     tell "no more rt was called for it" cmp "$work/wanted-calls" "$work/calls"
     echo 'kit three' >"$kits/second/kit/KIT-ID"
@@ -230,6 +257,78 @@ check_builds() {
     expect "what they built" 0 'first: <x>\nsource' '' without_rt ./seuss x
 }
 
+# took NAME COMMAND..: notes in least the time in microseconds of a run, where it is the least yet.
+took() {
+    local name=$1 start time
+    shift
+    start=${EPOCHREALTIME/./}
+    "$@" </dev/null >/dev/null
+    time=$((${EPOCHREALTIME/./} - start))
+    [ -n "${least[$name]-}" ] && [ "${least[$name]}" -le "$time" ] || least[$name]=$time
+}
+
+# The paths that the launcher looks at, one by one by stat, in C.
+make_stats() {
+    cat >"$work/stats.c" <<'END'
+#include <stdio.h>
+#include <sys/stat.h>
+
+int main(int count, char **words) {
+    char path[4096];
+    struct stat found;
+    FILE *paths = fopen(words[count - 1], "r");
+    unsigned long seen = 0;
+    for (int at = 0, letter; (letter = getc(paths)) != EOF;) {
+        path[at] = (char)letter;
+        at = letter == 0 ? 0 : at + 1;
+        if (at == 0 && stat(path, &found) == 0)
+            seen += found.st_ino + (unsigned long)found.st_size;
+    }
+    return seen == 0;
+}
+END
+    cc -O2 -o "$work/stats" "$work/stats.c"
+}
+
+# Whether the launcher takes at most 4 ms more than the program and one look at each source.
+is_cheap() {
+    local program paths turn
+    local -A least=()
+    program=$(with_kit first sh scripts/program_path.sh) && paths=$(<out/stamp.kit) || return
+    for ((turn = 0; turn < 100; turn++)); do
+        took program "$program" x
+        took look "$work/stats" "out/$paths/paths"
+        took launcher with_kit first ./seuss x
+    done
+    echo "  the program ${least[program]} us, one look ${least[look]} us, all with the launcher" \
+        "${least[launcher]} us"
+    [ "$((least[launcher] - least[program]))" -le "$((least[look] + 4000))" ]
+}
+
+# Whether no one else takes more than half of the processors.
+is_quiet() {
+    local load
+    read -r load _ </proc/loadavg && [ "${load%.*}" -lt "$(($(nproc) / 2))" ] && return
+    skip "what the launcher costs, since the machine is busy"
+    return 1
+}
+
+# What it costs in a tree with 1,400 sources in 700 folders.
+check_cost() {
+    local at folder
+    if ! has cc "what the launcher costs" || ! is_quiet; then return 0; fi
+    make_stats || return
+    for ((at = 0; at < 700; at++)); do
+        folder=$house/crates/low/proofs/part$((at / 20))/function$at
+        mkdir -p -- "$folder" && echo "$at" >"$folder/Answers.antt" &&
+            echo "$at" >"$folder/Invariants.antt" || return
+    done
+    release "kit one"
+    cd -- "$house" || return
+    tell "what the launcher costs" is_cheap
+    cd -- "$top" || return
+}
+
 clone() {
     rm -rf -- "$work/clone"
     git clone -q -- "$top" "$work/clone" || return
@@ -238,7 +337,7 @@ clone() {
 
 # The first commands in fresh clones, from the released program.
 check_first_commands() {
-    local echo_elf=examples/echo.elf words
+    local echo_elf=examples/echo.elf words errors_by=first_line
     source_of '\001\002' 1
     expect "the first command in a fresh clone, with no rt" 0 'halt:0 12 0102 -\n' '' \
         without_rt ./seuss call "$echo_elf"
@@ -312,4 +411,5 @@ check_sources
 check_places
 check_kits
 check_builds
+check_cost
 check_clones

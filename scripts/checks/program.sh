@@ -11,9 +11,10 @@ answers() {
     expect "$name" 0 "$output" '' "$@"
 }
 
-# refuses STATUS LINE NAME COMMAND..: the status with its line, and no output.
+# refuses STATUS LINE NAME COMMAND..: the status with its line, and no output. (hints.sh looks
+# at what stands behind the line.)
 refuses() {
-    local status=$1 line=$2 name=$3
+    local status=$1 line=$2 name=$3 errors_by=first_line
     shift 3
     expect "$name" "$status" '' "seuss: $line\\n" "$@"
 }
