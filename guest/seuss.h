@@ -110,4 +110,30 @@ typedef size_t seuss_handler(const uint8_t *packet, size_t length, uint8_t *repl
  */
 _Noreturn void seuss_serve(seuss_handler *handle);
 
+/*
+ * The trigger of a program of layers, which calls it once it has read all that is queued. A run
+ * of a layer stops where it is called. What goes on from there, a layer above or a request, comes
+ * back from the call with its packets queued. A call is a wait: without a packet the run rests.
+ */
+__attribute__((weak, noinline, noclone)) void seuss_ready(void) {
+    seuss_wait();
+}
+
+/*
+ * Serves as seuss_serve does, and reads all that is queued before it comes to its trigger, which
+ * is seuss_ready: so each layer has read all of its packets. What a handler replies in the run of
+ * a layer goes nowhere. A run ends with `fault:3` where seuss_serve's does.
+ */
+static inline _Noreturn void seuss_serve_layers(seuss_handler *handle) {
+    static uint8_t packet[SEUSS_PACKET_BYTES], reply[SEUSS_PACKET_BYTES];
+    for (;; seuss_ready()) {
+        size_t length;
+        while (seuss_read(packet, sizeof packet, &length) == SEUSS_OK) {
+            size_t written = handle(packet, length, reply);
+            if (seuss_write(reply, written) != SEUSS_OK)
+                __builtin_trap();
+        }
+    }
+}
+
 #endif
