@@ -2,3 +2,4 @@ pub mod Placing
 pub mod Visits
 pub mod Worked
 mod Filling
+mod Closing

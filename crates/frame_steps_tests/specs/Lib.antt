@@ -1,2 +1,3 @@
 pub mod Mids
 pub mod Filled
+pub mod Parted

@@ -1,3 +1,4 @@
+mod closing;
 mod counts;
 mod entries;
 mod threads;

@@ -1,6 +1,9 @@
 //! Whole commands over files, a source and sinks in memory: the lines that come out, and
 //! each call that can fail.
 
+mod programs;
+mod vast;
+
 use edge_files::MemFiles;
 use edge_streams::{MemSink, MemSource};
 use seuss_top::{Plain, Status, run_plain};
@@ -26,7 +29,7 @@ fn add_words(file: &mut Vec<u8>, words: &[u32]) -> Result<(), AllocError> {
 /// An ELF file of one segment of these words, at 0x10000 with this size in memory.
 fn image_file(alloc: Global, words: &[u32], memory: u32) -> Result<Vec<u8>, AllocError> {
     let mut file = HEADERS.to_vec(alloc)?;
-    let file_bytes = words.len().min(12) as u32 * 4;
+    let file_bytes = words.len().min(1024) as u32 * 4;
     add_words(&mut file, &[file_bytes, 0, memory, 0, 1, 0])?;
     add_words(&mut file, words)?;
     Ok(file)
@@ -120,14 +123,19 @@ fn in_memory(
     })
 }
 
-fn run(alloc: Global, arguments: &[&str], world: &mut World) -> Result<Status, AllocError> {
+/// The arguments as the program has them.
+fn texts(alloc: Global, arguments: &[&str]) -> Result<Vec<String>, AllocError> {
     let mut texts = Vec::new(alloc);
     for argument in arguments {
         texts.push(String::from_str(alloc, argument)?)?;
     }
+    Ok(texts)
+}
+
+fn run(alloc: Global, arguments: &[&str], world: &mut World) -> Result<Status, AllocError> {
     let Plain::Done(status) = run_plain(
         alloc,
-        &texts,
+        &texts(alloc, arguments)?,
         &mut world.files,
         &mut world.source,
         &mut world.sink,
@@ -159,7 +167,7 @@ fn check<R: Abort + AllocGlobal>(
 
 /// Programs, each with the size of its segment in memory and its packet, and their lines.
 /// The words are worked out by hand from the RISC-V manuals.
-const LINES: [(&[u32], u32, &[u8], &str); 11] = [
+const LINES: [(&[u32], u32, &[u8], &str); 22] = [
     (ECHO, 0x1000, &[1, 2], "halt:0 12 0102 -\n"),
     (ECHO, 0x1000, &[], "halt:0 12 - -\n"),
     (ECHO, 0x8000_0000, &[7], "halt:0 12 07 -\n"),
@@ -179,12 +187,36 @@ const LINES: [(&[u32], u32, &[u8], &str); 11] = [
         &[1, 2],
         "ok 8 none -\n",
     ),
-    // An unknown hypercall.
+    // Unknown hypercalls: 99, and those below, between and above the six.
     (
         &[0x0630_0893, 0x0000_0073],
         0x1000,
         &[1, 2],
         "fault:8:10004:63 1 none -\n",
+    ),
+    (
+        &[0x0000_0893, 0x0000_0073],
+        0x1000,
+        &[1, 2],
+        "fault:8:10004:0 1 none -\n",
+    ),
+    (
+        &[0x0040_0893, 0x0000_0073],
+        0x1000,
+        &[1, 2],
+        "fault:8:10004:4 1 none -\n",
+    ),
+    (
+        &[0x0050_0893, 0x0000_0073],
+        0x1000,
+        &[1, 2],
+        "fault:8:10004:5 1 none -\n",
+    ),
+    (
+        &[0x0090_0893, 0x0000_0073],
+        0x1000,
+        &[1, 2],
+        "fault:8:10004:9 1 none -\n",
     ),
     // An illegal word after two packets.
     (
@@ -249,6 +281,95 @@ const LINES: [(&[u32], u32, &[u8], &str); 11] = [
         &[1, 2],
         "fault:15:10008:3ffffeffff 2 none -\n",
     ),
+    // A console write of no bytes at address 5, which isn't readable, is done.
+    (
+        &[
+            0x0050_0513,
+            0x0020_0893,
+            0x0000_0073,
+            0x0080_0893,
+            0x0000_0073,
+        ],
+        0x1000,
+        &[1, 2],
+        "halt:0 5 none -\n",
+    ),
+    // So are two net writes: each is a packet of no bytes.
+    (
+        &[
+            0x0050_0513,
+            0x0060_0893,
+            0x0000_0073,
+            0x0050_0513,
+            0x0000_0073,
+            0x0080_0893,
+            0x0000_0073,
+        ],
+        0x1000,
+        &[1, 2],
+        "halt:0 7 -/- -\n",
+    ),
+    // A net read at address 0 is invalid, and done where the packet has no bytes.
+    (
+        &[
+            0x4000_0593,
+            0x0070_0893,
+            0x0000_0073,
+            0x0080_0893,
+            0x0000_0073,
+        ],
+        0x1000,
+        &[1, 2],
+        "halt:2 5 none -\n",
+    ),
+    (
+        &[
+            0x4000_0593,
+            0x0070_0893,
+            0x0000_0073,
+            0x0080_0893,
+            0x0000_0073,
+        ],
+        0x1000,
+        &[],
+        "halt:0 5 none -\n",
+    ),
+    // The packet stays where it is invalid: the echo has it.
+    (
+        &[
+            0x4000_0593,
+            0x0070_0893,
+            0x0000_0073,
+            0x0010_0413,
+            0x0104_1413,
+            0x1004_0513,
+            0x4000_0593,
+            0x0070_0893,
+            0x0000_0073,
+            0x1004_0513,
+            0x0060_0893,
+            0x0000_0073,
+            0x0000_0513,
+            0x0080_0893,
+            0x0000_0073,
+        ],
+        0x1000,
+        &[1, 2],
+        "halt:0 15 0102 -\n",
+    ),
+    // A code has 64 bits: 64, and all of them.
+    (
+        &[0x0400_0513, 0x0080_0893, 0x0000_0073],
+        0x1000,
+        &[1, 2],
+        "halt:64 3 none -\n",
+    ),
+    (
+        &[0xfff0_0513, 0x0080_0893, 0x0000_0073],
+        0x1000,
+        &[1, 2],
+        "halt:18446744073709551615 3 none -\n",
+    ),
     // The clock shows 0.
     (
         &[0x0010_0893, 0x0000_0073, 0x0080_0893, 0x0000_0073],
@@ -268,7 +389,7 @@ fn writes_the_line_of_a_run(rt: HostRuntime) -> Result<(), Fail> {
 }
 
 /// How many bytes of the file are there, one that is wrong, and what is said of it.
-const FAULTY: [(usize, usize, u8, &str); 10] = [
+const FAULTY: [(usize, usize, u8, &str); 12] = [
     (63, 0, 0x7f, "seuss: image Short\n"),
     (168, 0, 0x7e, "seuss: image Magic\n"),
     (168, 4, 1, "seuss: image Class\n"),
@@ -278,6 +399,8 @@ const FAULTY: [(usize, usize, u8, &str); 10] = [
     (168, 54, 57, "seuss: image HeaderSize\n"),
     (168, 56, 65, "seuss: image TooBig\n"),
     (168, 33, 1, "seuss: image ProgramHeader\n"),
+    (168, 97, 1, "seuss: image SegmentRange\n"),
+    (168, 82, 0, "seuss: image Address\n"),
     (168, 24, 2, "seuss: image Entry\n"),
 ];
 
@@ -295,7 +418,7 @@ fn refuses_what_is_no_image(rt: HostRuntime) -> Result<(), Fail> {
 }
 
 /// The arguments, the calls that fail, and what becomes of the packet 01 02.
-const OUTCOMES: [(&[&str], Failing, Outcome<'static>); 24] = [
+const OUTCOMES: [(&[&str], Failing, Outcome<'static>); 32] = [
     (&[], (1, 1, 0, 0), (1, "", "seuss: words\n")),
     (&["call"], (1, 1, 0, 0), (1, "", "seuss: words\n")),
     (&["call", ""], (1, 1, 0, 0), (1, "", "seuss: words\n")),
@@ -306,6 +429,27 @@ const OUTCOMES: [(&[&str], Failing, Outcome<'static>); 24] = [
         (1, "", "seuss: words\n"),
     ),
     (&["asm", "echo.s"], (1, 1, 0, 0), (1, "", "seuss: words\n")),
+    // No word is left out.
+    (
+        &["", "call", "echo.elf"],
+        (1, 1, 0, 0),
+        (1, "", "seuss: words\n"),
+    ),
+    (
+        &["call", "", "echo.elf"],
+        (1, 1, 0, 0),
+        (1, "", "seuss: words\n"),
+    ),
+    (
+        &["call", "echo.elf", ""],
+        (1, 1, 0, 0),
+        (1, "", "seuss: words\n"),
+    ),
+    (&["asm", ""], (1, 1, 0, 0), (1, "", "seuss: words\n")),
+    (&["dis", ""], (1, 1, 0, 0), (1, "", "seuss: words\n")),
+    (&["asm", "dis"], (1, 1, 0, 0), (1, "", "seuss: words\n")),
+    (&["", "asm"], (1, 1, 0, 0), (1, "", "seuss: words\n")),
+    (&["", "dis"], (1, 1, 0, 0), (1, "", "seuss: words\n")),
     (
         &["kall", "echo.elf"],
         (1, 1, 0, 0),
@@ -364,7 +508,7 @@ fn takes_the_longest_packet(rt: HostRuntime) -> Result<(), Fail> {
     for (size, failing, outcome) in [
         (32_768, NONE, (0, line.as_str(), "")),
         (32_769, (0, 32_769, 0, 0), (4, "", "seuss: read fault\n")),
-        (32_769, (0, 32_770, 0, 0), (3, "", "seuss: size\n")),
+        (32_769, (0, 32_770, 1, 0), (3, "", "seuss: size\n")),
     ] {
         let packet = vec![in rt.alloc(); 0x5a; size]?;
         check(&rt, CALL, &file, &packet, failing, outcome)?;
@@ -397,7 +541,7 @@ fn assembles_a_text(rt: HostRuntime) -> Result<(), Fail> {
 }
 
 /// Texts that `asm` refuses, or the calls that fail, and what becomes of them.
-const TEXTS: [(&[u8], Failing, Outcome<'static>); 9] = [
+const TEXTS: [(&[u8], Failing, Outcome<'static>); 12] = [
     (
         b".segment 0x10000 rx 4096\naddi a0, x0, 2048\n",
         NONE,
@@ -412,6 +556,21 @@ const TEXTS: [(&[u8], Failing, Outcome<'static>); 9] = [
         b".segment 0x10000 rx 4096\njal x0, there\n",
         NONE,
         (3, "", "seuss: line 2 Undefined\n"),
+    ),
+    (
+        b".segment 0x10000 rx 4096\naddi a0, x0, x0\n",
+        NONE,
+        (3, "", "seuss: line 2 BadNumber\n"),
+    ),
+    (
+        b".segment 0x10000 rx 4096\nhere:\nhere:\n",
+        NONE,
+        (3, "", "seuss: line 3 TwiceDefined\n"),
+    ),
+    (
+        b"\n\n\n\n\n\n\n\n\n\n\nfoo\nfoo\n",
+        NONE,
+        (3, "", "seuss: line 12 UnknownName\n"),
     ),
     (b"addi x1, x0, 1", NONE, (3, "", "seuss: line 1 BadShape\n")),
     (b"", NONE, (3, "", "seuss: line 1 BadShape\n")),
@@ -499,18 +658,29 @@ fn lists_each_shape(rt: HostRuntime) -> Result<(), Fail> {
 const SHARED_LINES: &str = "10000 00000001 .word 0x00000001\n10004 00000005 .word 0x00000005\n\
     20000 00000001 .word 0x00000001\n20004 05 .byte 0x05\n20005 00 .byte 0x00\n";
 
-#[test]
-fn lists_bytes_that_two_segments_share(rt: HostRuntime) -> Result<(), Fail> {
-    let mut file = HEADERS.to_vec(rt.alloc())?;
+/// A file of a segment of eight bytes at 0x10000, and a second one at this address.
+fn two_segments(alloc: Global, second: u32) -> Result<Vec<u8>, AllocError> {
+    let mut file = HEADERS.to_vec(alloc)?;
     if let Some(e_phnum) = file.get_mut(56) {
         *e_phnum = 2;
     }
     add_words(&mut file, &[8, 0, 8, 0, 1, 0])?;
     add_words(
         &mut file,
-        &[1, 5, 0x78, 0, 0x20000, 0, 0, 0, 6, 0, 6, 0, 1, 0],
+        &[1, 5, 0x78, 0, second, 0, 0, 0, 6, 0, 6, 0, 1, 0],
     )?;
-    check(&rt, &["dis"], &[], &file, NONE, (0, SHARED_LINES, ""))?;
+    Ok(file)
+}
+
+#[test]
+fn lists_bytes_that_two_segments_share(rt: HostRuntime) -> Result<(), Fail> {
+    for (second, outcome) in [
+        (0x20000, (0, SHARED_LINES, "")),
+        (0x10007, (2, "", "seuss: image Overlap\n")),
+    ] {
+        let file = two_segments(rt.alloc(), second)?;
+        check(&rt, &["dis"], &[], &file, NONE, outcome)?;
+    }
     Ok(())
 }
 
