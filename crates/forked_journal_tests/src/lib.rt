@@ -1,0 +1,5 @@
+//! Journals that go on from one front in several ways, tried on `run_journal`.
+#![tactic(auto)]
+
+#[cfg(test)]
+mod tests;

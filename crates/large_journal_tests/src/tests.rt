@@ -1,0 +1,3 @@
+mod contexts;
+mod lines;
+mod rooms;
