@@ -1,6 +1,7 @@
 //! Steps on shared frames.
 
 use crate::problem::Problem;
+use crate::words::number;
 use frame_rounds::{MOST_FRAMES, StepKind, opened, played};
 use std::alloc::Global;
 
@@ -18,9 +19,7 @@ fn open_table(alloc: Global, count: u64) -> Result<u64, Problem> {
 /// Opens a table, where the step is named `open`, or plays so many rounds of the step. Answers
 /// the frames of the table, or what the loads saw.
 pub fn frames_part(alloc: Global, step: &str, count: &str) -> Result<u64, Problem> {
-    let Ok(count) = count.parse::<u64>() else {
-        return Err(Problem::Words);
-    };
+    let count = number(count)?;
     if step == "open" {
         return open_table(alloc, count);
     }

@@ -1,12 +1,17 @@
 //! Parts of the server that no command runs yet, by themselves, so that they can be measured:
 //! `judge FILE` judges the journal whose event lines the file has, `plan FILE` reads a plan,
 //! `frames open COUNT` opens a table of so many frames, and `frames STEP COUNT` takes steps on one.
+//! `copies KIND PAGES ROUNDS` captures or deploys a space of so many pages again and again, and
+//! `idle FILE COUNT` holds so many contexts of a plan that have served nothing.
 #![tactic(auto)]
 
+mod copies;
 mod frames;
+mod idle;
 mod journal;
 mod plan;
 mod problem;
+mod words;
 
 use crate::problem::Problem;
 use edge_files::StdFiles;
@@ -31,6 +36,14 @@ fn measured<R: Env + rt::Files + Alloc<A = Global>>(rt: &R) -> Result<String, Pr
         }
         [_, part, step, count] if part.as_str() == "frames" => {
             let told = frames::frames_part(alloc, step.as_str(), count.as_str())?;
+            Ok(format!(in alloc; "{told}")?)
+        }
+        [_, part, kind, pages, rounds] if part.as_str() == "copies" => {
+            let told = copies::copies_part(alloc, kind.as_str(), pages.as_str(), rounds.as_str())?;
+            Ok(format!(in alloc; "{told}")?)
+        }
+        [_, part, file, count] if part.as_str() == "idle" => {
+            let told = idle::idle_part(alloc, &mut files, file.as_str(), count.as_str())?;
             Ok(format!(in alloc; "{told}")?)
         }
         _ => Err(Problem::Words),

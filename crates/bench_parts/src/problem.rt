@@ -9,7 +9,8 @@ use thiserror::Error;
 /// Why a part wasn't measured.
 #[derive(Debug, Drop, Error)]
 pub enum Problem {
-    #[error("the words are: judge FILE, plan FILE, frames open COUNT, or frames STEP COUNT")]
+    #[error("the words are: judge FILE, plan FILE, frames open COUNT, frames STEP COUNT, \
+         copies KIND PAGES ROUNDS, or idle FILE COUNT")]
     Words,
     #[error("{0}")]
     File(FileFault),

@@ -69,6 +69,7 @@ pub fn deploy<'a, T: Store>(
     requires plain { T.Space.takes_frames ≡ false }
     requires loose { T.Frozen.pin below.old.frozen ≡ None }
     ensures open { IfSome result (λ c. IsOpen T.Space.pin c) }
+    ensures unstripped { IfSome result (λ c. c.stripped ≡ 0) }
     ensures loose { T.Frozen.pin below.new.frozen ≡ None }
 {
     let plan = below.plan();
@@ -158,6 +159,7 @@ pub fn serve<'a, S: Space, L: Ledger>(
 ) -> Option<Ended>
     requires open { IsOpen S.pin context.old }
     ensures open { IsOpen S.pin context.new }
+    ensures stripped { context.new.stripped ≡ context.old.stripped }
 {
     if !context.is_still() || context.served().len() >= USES as usize {
         return None;

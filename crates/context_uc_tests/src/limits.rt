@@ -87,6 +87,7 @@ pub fn run_asked<'a, S: Space, L: Ledger>(
     }) }
     ensures loose { S.pin context.new.space ≡ None }
     ensures uses { context.new.uses ≡ context.old.uses }
+    ensures stripped { context.new.stripped ≡ context.old.stripped }
 {
     // This call does nothing: its contract is the law that the clause rests on.
     parts_are_the_run();

@@ -3,6 +3,9 @@
 ghost use Rattle.std.specs.Prelude.{◌≡◌, ◌<◌, None, IfSome, false};
 ghost use Rattle.context_uc_tests.specs.Standing.{IsOpen};
 
+mod pins;
+mod strips;
+
 use crate::{Bench, Climbed, Ended, climb, deploy, image, serve};
 use context_uc::{Layer, end, release};
 use edge_files::MemFiles;
@@ -166,15 +169,20 @@ fn all_end<L: Ledger>(alloc: Global, bench: &mut Bench<L>) -> Option<bool> {
     Some(true)
 }
 
-/// Whether three layers answer as they should.
-fn three_sum<L: Ledger>(alloc: Global, bench: &mut Bench<L>) -> Option<bool> {
+/// Whether contexts of three layers answer as they should, also where they are stripped and pinned
+/// in between.
+fn three_sum<L: Ledger>(alloc: Global, bench: &mut Bench<L>) -> Option<(bool, bool, bool)> {
     let plan = plan_of(alloc, THREE, COUNT)?;
     let store = PlainStore::open(plan.starts()).ok()?;
-    sums(alloc, &store, &mut PlainShelf::new(64), bench, &plan)
+    let mut shelf = PlainShelf::new(64);
+    let plainly = sums(alloc, &store, &mut shelf, bench, &plan)?;
+    let stripped = strips::strips_between(alloc, &store, &mut shelf, bench, &plan)?;
+    let pinned = pins::pins_between(alloc, &store, &mut shelf, bench, &plan)?;
+    Some((plainly, stripped, pinned))
 }
 
 /// What both came to, over a ledger of their own.
-fn both_by<L: Ledger>(alloc: Global, blank: Blank) -> Option<(bool, bool)>
+fn both_by<L: Ledger>(alloc: Global, blank: Blank) -> Option<((bool, bool, bool), bool)>
     requires name { blank.name ≡ L.name }
     requires parts { blank.parts ≡ L.parts }
     requires some { 0 < blank.parts }
@@ -188,12 +196,12 @@ fn both_by<L: Ledger>(alloc: Global, blank: Blank) -> Option<(bool, bool)>
 }
 
 /// What both came to.
-fn both(alloc: Global) -> Option<(bool, bool)> {
+fn both(alloc: Global) -> Option<((bool, bool, bool), bool)> {
     both_by::<Brand>(alloc, Blank::new(1))
 }
 
 #[test]
 fn layers_are_taken_or_missed(rt: HostRuntime) -> Result<(), Fail> {
-    assert_eq!(rt; both(rt.alloc()), Some((true, true)));
+    assert_eq!(rt; both(rt.alloc()), Some(((true, true, true), true)));
     Ok(())
 }
