@@ -1,0 +1,6 @@
+mod Entries
+mod Growing
+mod Holds
+mod Results
+mod Unnamed
+mod Waiting

@@ -1,0 +1,3 @@
+pub mod Kept
+pub mod Shared
+pub mod Steps

@@ -1,0 +1,5 @@
+pub mod Standing
+pub mod Fewer
+pub mod Waits
+pub mod Changing
+pub mod Deploying
