@@ -11,10 +11,10 @@ use std::marker::Brand;
 use std::sync::ledger::{Blank, Ledger};
 
 /// How many parts the whole of all stakes has.
-const WHOLE: u64 = 4_194_304;
+pub const WHOLE: u64 = 4_194_304;
 
 /// The most frames that there are.
-const MOST_FRAMES: u32 = 131_072;
+pub const MOST_FRAMES: u32 = 131_072;
 
 /// What is played over any store of three starts.
 pub trait Play {
