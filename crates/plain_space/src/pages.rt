@@ -23,10 +23,12 @@ pub struct Pages {
     pub alloc: Global,
     pub regions: Vec<Region>,
     pub list: Vec<Page>,
-    /// Where in the list a page to fetch from may be, by the rest of its number.
-    pub code: [u32; 64],
-    /// Where in the list a page to read or write may be, by the rest of its number.
-    pub data: [u32; 64],
+    /// Where in the list a page to fetch from may be, by the rest of its number. A place of
+    /// 65,536 or above isn't kept: its page is searched for each time.
+    pub code: [u16; 64],
+    /// Where in the list a page to read or write may be, by the rest of its number, kept as
+    /// `code` keeps it.
+    pub data: [u16; 64],
 }
 
 impl Pages {
@@ -78,7 +80,7 @@ impl Pages {
         }
         let found = self.search(number);
         if let Some(i) = found {
-            self.code[slot] = u32::try_from(i).unwrap_or(0);
+            self.code[slot] = u16::try_from(i).unwrap_or(0);
         }
         found
     }
@@ -97,7 +99,7 @@ impl Pages {
         }
         let found = self.search(number);
         if let Some(i) = found {
-            self.data[slot] = u32::try_from(i).unwrap_or(0);
+            self.data[slot] = u16::try_from(i).unwrap_or(0);
         }
         found
     }
