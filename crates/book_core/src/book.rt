@@ -4,11 +4,11 @@ ghost use Rattle.std.specs.Prelude.{◌≡◌, ℕ, ◌+◌, [], false, length, 
 ghost use Rattle.std.specs.Prelude.{if◌then◌else◌, Some, None};
 ghost use Rattle.std.specs.List.{slice_get};
 ghost use Rattle.journal_model.specs.Legal.{at_first};
-ghost use Rattle.book_core.specs.Kept.{IsBook, IsOpenable, IsImageOf, IsStaked};
+ghost use Rattle.book_model.specs.Kept.{IsBook, IsOpenable, IsImageOf, IsStaked, IsNoting, IsWhole};
 
 use crate::grounds::Grounds;
-use book_log::Log;
-use journal_model::Sizes;
+use book_log::{Log, Started};
+use journal_model::{Event, Sizes};
 use machine_model::Memory;
 use slot_lists::{IdleSlots, LayerSlots};
 use space_api::{Kept, Parked, Stock};
@@ -33,8 +33,8 @@ pub struct Book<C: Parked, L: Kept, H: Stock, G: Grounds<C, L>> {
 
 impl<C: Parked, L: Kept, H: Stock, G: Grounds<C, L>> Model for Book<C, L, H, G> {
     ghost use Rattle.std.specs.Prelude.{◌≡◌};
-    ghost use Rattle.book_core.specs.Shared.{Shared};
-    ghost use Rattle.book_core.specs.Kept.{IsBook};
+    ghost use Rattle.book_model.specs.Shared.{Shared};
+    ghost use Rattle.book_model.specs.Kept.{IsBook};
 
     ghost Value = { Shared C L H };
 
@@ -66,7 +66,8 @@ impl<C: Parked, L: Kept, H: Stock, G: Grounds<C, L>> Model for Book<C, L, H, G> 
 
 impl<C: Parked, L: Kept, H: Stock, G: Grounds<C, L>> Book<C, L, H, G> {
     /// A book of no events, with one image for each start, in order, and a shelf that has all the
-    /// free frames. The only error is want of memory.
+    /// free frames and, over frames, the whole stake together with the images, which were opened
+    /// from it. The only error is want of memory.
     pub fn open(
         alloc: Global,
         sizes: Sizes,
@@ -82,6 +83,8 @@ impl<C: Parked, L: Kept, H: Stock, G: Grounds<C, L>> Book<C, L, H, G> {
             G.is_layer image × IsImageOf start (L.kept image) (L.pin image) }
         requires free { (H.stocked shelf).free ≡ sizes.frames }
         requires stake { IsStaked sizes.root 0 (H.stocked shelf) }
+        requires notes { IsNoting sizes.root (length images.items) (H.stocked shelf) }
+        requires whole { IsWhole sizes.root L.stake images.items (H.stocked shelf) }
         ensures { IfOk result (λ book. book ≡ record {
           sizes = sizes;
           events = [];
@@ -113,6 +116,27 @@ impl<C: Parked, L: Kept, H: Stock, G: Grounds<C, L>> Book<C, L, H, G> {
             then Some (length self.now.started + 1) else None) }
     {
         self.log.next()
+    }
+
+    /// The sizes that bound the journal.
+    pub fn sizes(&self) -> &Sizes
+        ensures { result.now ≡ self.now.sizes }
+    {
+        self.log.sizes()
+    }
+
+    /// The journal so far.
+    pub fn events(&self) -> &[Event]
+        ensures { result.now ≡ self.now.events }
+    {
+        self.log.events()
+    }
+
+    /// The requests that were started, in the order of their numbers.
+    pub fn started(&self) -> &[Started]
+        ensures { result.now ≡ self.now.started }
+    {
+        self.log.started()
     }
 
     /// Hands out what is kept, and does nothing.

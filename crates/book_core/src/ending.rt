@@ -3,7 +3,7 @@
 ghost use Rattle.std.specs.Prelude.{◌≡◌, ◌∷◌, [], true, IsErr, OnOk, OnErr, IfSome, IsSome};
 ghost use Rattle.journal_model.specs.Legal.{after_all, is_open};
 ghost use Rattle.journal_model.specs.declared.event.Event.TheVariants.{Want};
-ghost use Rattle.book_core.specs.Steps.{Appends, ended};
+ghost use Rattle.book_model.specs.Steps.{Appends, ended};
 
 use crate::book::Book;
 use crate::grounds::Grounds;

@@ -5,8 +5,11 @@
 
 mod book;
 mod closing;
+mod deploying;
 mod ending;
 mod grounds;
+mod keeping;
+mod parking;
 mod returning;
 mod starting;
 mod taking;
@@ -14,4 +17,5 @@ mod taking;
 pub use book::Book;
 pub use book_log::Started;
 pub use closing::Closed;
+pub use deploying::Deployed;
 pub use grounds::Grounds;

@@ -2,7 +2,7 @@
 
 ghost use Rattle.std.specs.Prelude.{◌≡◌, true, IfErr, OnOk, OnErr, IsErr};
 ghost use Rattle.space_api.specs.Holding.{if_taken};
-ghost use Rattle.book_core.specs.Steps.{Returns};
+ghost use Rattle.book_model.specs.Steps.{Returns};
 
 use crate::book::Book;
 use crate::grounds::Grounds;

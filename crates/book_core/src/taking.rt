@@ -2,8 +2,8 @@
 
 ghost use Rattle.std.specs.Prelude.{◌≡◌, true, IsErr, IfOk, IfSome, OnErr, MatchOption};
 ghost use Rattle.journal_model.specs.Legal.{is_waiting, request_function};
-ghost use Rattle.book_core.specs.Kept.{IsWaiting};
-ghost use Rattle.book_core.specs.Steps.{FindsNone, Takes};
+ghost use Rattle.book_model.specs.Kept.{IsWaiting};
+ghost use Rattle.book_model.specs.Steps.{FindsNone, Takes};
 
 use crate::book::Book;
 use crate::grounds::Grounds;

@@ -88,6 +88,13 @@ impl Log {
         &self.sizes
     }
 
+    /// The events so far, in order.
+    pub fn events(&self) -> &[Event]
+        ensures { result.now ≡ self.now.events }
+    {
+        &self.events
+    }
+
     /// The requests that were started, in the order of their numbers.
     pub fn started(&self) -> &[Started]
         ensures { result.now ≡ self.now.started }

@@ -1,6 +1,6 @@
 use Rattle.std.proofs.Common.{subst, map}
 use Rattle.slot_lists.specs.Held.{AreUnder}
-use Rattle.book_core.specs.Shared.{Shared}
+use Rattle.book_model.specs.Shared.{Shared}
 use Rattle.book_core.proofs.book.Book.close.Goals as goal
 
 pub returns-clause-contexts : goal.returns-clause-contexts

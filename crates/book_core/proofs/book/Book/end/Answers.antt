@@ -1,10 +1,10 @@
 use Rattle.std.proofs.Common.{subst, sym, IsSome, ℕ, Option, refl}
 use Rattle.journal_model.specs.Legal.{after_all}
 use Rattle.journal_model.specs.declared.event.Event.TheVariants.{End}
-use Rattle.book_core.specs.Shared.{Shared}
-use Rattle.book_core.specs.Steps.{ended}
-use Rattle.book_core.proofs.Results.{end_quiet, answer_quiet, stands_on, stands_both, appends}
-use Rattle.book_core.proofs.Results.{one_state, one_may}
+use Rattle.book_model.specs.Shared.{Shared}
+use Rattle.book_model.specs.Steps.{ended}
+use Rattle.book_model.proofs.Results.{end_quiet, answer_quiet, stands_on, stands_both, appends}
+use Rattle.book_model.proofs.Results.{one_state, one_may}
 use Rattle.book_core.proofs.book.Book.end.Goals as goal
 
 pub note-requires-clause-may : goal.note-requires-clause-may

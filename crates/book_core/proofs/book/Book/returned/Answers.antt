@@ -2,10 +2,10 @@ use Rattle.std.proofs.Common.{subst, sym, ap, ◌∙◌, ℕ, ◌≡◌, IsSome,
 use Rattle.journal_model.specs.Legal.{after}
 use Rattle.journal_model.specs.declared.event.Event.TheVariants.{Back}
 use Rattle.book_log.specs.Logged.{Logged}
-use Rattle.book_core.specs.Shared.{Shared}
-use Rattle.book_core.proofs.Holds.{IsNext}
-use Rattle.book_core.proofs.Results.{give_may, returns_none, returns_some}
-use Rattle.book_core.proofs.Results.{stands_back, next_of, leads_of}
+use Rattle.book_model.specs.Shared.{Shared}
+use Rattle.book_model.proofs.Holds.{IsNext}
+use Rattle.book_model.proofs.Results.{give_may, returns_none, returns_some}
+use Rattle.book_model.proofs.Results.{stands_back, next_of, leads_of}
 use Rattle.book_core.proofs.book.Book.returned.Goals as goal
 
 pub append-requires-clause-may : goal.append-requires-clause-may

@@ -1,7 +1,7 @@
 use Rattle.std.proofs.Common.{subst, sym, ◌≡◌, ◌+◌, true, length}
 use Rattle.journal_model.specs.Legal.{may_start}
-use Rattle.book_core.specs.Shared.{Shared}
-use Rattle.book_core.proofs.Results.{stands_started}
+use Rattle.book_model.specs.Shared.{Shared}
+use Rattle.book_model.proofs.Results.{stands_started}
 use Rattle.book_core.proofs.book.Book.start.Goals as goal
 
 pub invariant_of-self : goal.invariant_of-self

@@ -2,11 +2,11 @@ use Rattle.std.proofs.Common.{subst, sym, ap, ◌∙◌, ◌≡◌, true, refl, 
 use Rattle.std.specs.Prelude.{option_map}
 use Rattle.journal_model.specs.Legal.{is_waiting, request_function}
 use Rattle.cache_lists.specs.Recent.{Recent}
-use Rattle.book_core.specs.Kept.{IsWaiting}
+use Rattle.book_model.specs.Kept.{IsWaiting}
 use Rattle.slot_lists.specs.Lists.{Waiting, waiting_of}
-use Rattle.book_core.specs.Shared.{Shared}
-use Rattle.book_core.specs.Steps.{FindsNone}
-use Rattle.book_core.proofs.Results.{take_may, find_is, stands_taken, find_context, takes_is}
+use Rattle.book_model.specs.Shared.{Shared}
+use Rattle.book_model.specs.Steps.{FindsNone}
+use Rattle.book_model.proofs.Results.{take_may, find_is, stands_taken, find_context, takes_is}
 use Rattle.book_core.proofs.book.Book.take_idle.Goals as goal
 
 pub returns-in_default-clause-taken : goal.returns-in_default-clause-taken

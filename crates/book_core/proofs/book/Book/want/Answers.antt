@@ -1,7 +1,7 @@
 use Rattle.std.proofs.Common.{subst, sym, ap, ◌∙◌, ◌≡◌, true, refl}
 use Rattle.journal_model.specs.Legal.{is_open, owes_nothing}
-use Rattle.book_core.specs.Shared.{Shared}
-use Rattle.book_core.proofs.Results.{want_may, want_quiet, stands_on, appends, one_state}
+use Rattle.book_model.specs.Shared.{Shared}
+use Rattle.book_model.proofs.Results.{want_may, want_quiet, stands_on, appends, one_state}
 use Rattle.book_core.proofs.book.Book.want.Goals as goal
 
 pub note-requires-clause-may : goal.note-requires-clause-may

@@ -1,6 +1,0 @@
-mod Entries
-mod Growing
-mod Holds
-mod Results
-mod Unnamed
-mod Waiting

@@ -1,0 +1,15 @@
+pub mod Changed
+pub mod DeployResults
+pub mod Deployment
+pub mod Entries
+pub mod Growing
+pub mod Highest
+pub mod Holds
+pub mod KeepsLayers
+pub mod ParkingHeld
+pub mod ParkingResults
+pub mod ParkingStates
+pub mod Requested
+pub mod Results
+pub mod Unnamed
+pub mod Waiting
