@@ -1,0 +1,5 @@
+pub mod Answered
+pub mod Fits
+pub mod Images
+pub mod Placed
+pub mod Told

@@ -1,0 +1,1 @@
+//! Tests of the book, which are still to come.
