@@ -1,0 +1,3 @@
+pub mod Pushes
+pub mod Reading
+pub mod Spelling

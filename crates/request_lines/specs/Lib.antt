@@ -1,0 +1,3 @@
+pub mod FaultText
+pub mod LineEnd
+pub mod Requests
