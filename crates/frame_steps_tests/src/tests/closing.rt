@@ -54,7 +54,7 @@ fn opened_and_closed(alloc: Global, frames: u32) -> Result<u32, Memory>
 
 #[test]
 fn the_largest_table_is_closed(rt: HostRuntime) -> Result<(), Fail> {
-    assert_eq!(rt; opened_and_closed(rt.alloc(), 131_072)?, 131_072);
-    assert_eq!(rt; opened_and_closed(rt.alloc(), 1)?, 1);
+    assert_eq!(rt; opened_and_closed(rt.alloc(), 131_072), Ok(131_072));
+    assert_eq!(rt; opened_and_closed(rt.alloc(), 1), Ok(1));
     Ok(())
 }
