@@ -138,13 +138,21 @@ find_digest() {
     sh "$top/scripts/source_digest.sh"
 }
 
+# Notes what stat says of a half of the list.
+note_half() {
+    (look "$looked/paths.$1") >"$looked/state.$1"
+}
+
 # Makes in out/ the folder that the next look compares with, and sets looked to it. Where
 # nothing can be put there, or find is older than its 4.9, there is none.
 begin_look() {
     mkdir -p -- "$top/out" 2>/dev/null && [ -w "$top/out" ] || return 0
     looked=$(mktemp -d -- "$top/out/look.XXXXXX" 2>/dev/null) || return 0
     list_paths >"$looked/paths"
-    (look "$looked/paths") >"$looked/state" || drop_look
+    if ! split -t '\0' -n l/2 -- "$looked/paths" "$looked/paths." ||
+        ! note_half aa || ! note_half ab; then
+        drop_look
+    fi
     # What is edited after the sources are read then has another time than is noted.
     sleep 0.1 2>/dev/null || sleep 1
 }

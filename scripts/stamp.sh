@@ -6,8 +6,9 @@
 #
 # out/stamp.KIND names a folder of out/, whose files are: program, with the program's path below
 # $top and the path of the rt that was on the PATH; paths, each source, each folder that may hold
-# one, and rt with its kit's name; and state, what stat says of those. KIND is kit where there
-# is an rt on the PATH, and else none.
+# one, and rt with its kit's name; paths.aa and paths.ab, the halves of that list, which are
+# looked at side by side; and state.aa and state.ab, what stat says of those. KIND is kit where
+# there is an rt on the PATH, and else none.
 
 # Sets rt to the path of the first rt on the PATH, or to nothing, and kind.
 find_rt() {
@@ -39,6 +40,11 @@ is_there() {
     [ -x "$1" ] && [ -s "$1" ] && [ ! -d "$1" ]
 }
 
+# Whether nothing of this half of the list was touched since it was noted.
+is_untouched() {
+    look "$stamped/paths.$1" | cmp -s - "$stamped/state.$1"
+}
+
 # Sets program to the one that was found last, where it is there and nothing was touched since.
 find_stamped() {
     find_rt
@@ -48,5 +54,9 @@ find_stamped() {
     { read -r program && read -r stamped_rt; } 2>/dev/null <"$stamped/program" || return
     [ "$rt" = "$stamped_rt" ] && is_there "$top/$program" || return
     program=$top/$program
-    look "$stamped/paths" | cmp -s - "$stamped/state"
+    is_untouched aa &
+    other=$!
+    is_untouched ab
+    untouched=$?
+    wait "$other" && return "$untouched"
 }
