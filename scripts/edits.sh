@@ -14,6 +14,7 @@ most=5
 # that is no edit for a bad one, so they stand here.
 exceptions() {
     cat <<'END'
+book_core 6 each of six wrong books is asked to be refused by its call
 seuss_top 7 run_plain that always answers one status, 1 to 6, is refused status by status
 END
 }
