@@ -1,0 +1,5 @@
+pub mod Events
+pub mod Fits
+pub mod Replies
+pub mod Setting
+pub mod Text
