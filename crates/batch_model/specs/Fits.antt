@@ -24,7 +24,7 @@ pub record IsWholeJournal (setting : Setting) (requests : List Request) (events 
   pub reached : after_all (sizes_of setting requests) (at_first (sizes_of setting requests)) events
       ≡ Some s
   pub nothing_owed : owes_nothing s.owed ≡ true
-  -- it is whole: each started request was answered, refused or wanted, and no context serves anybody
+  -- it is whole: each started request was answered, refused or wanted, and no context serves one
   pub whole : IsWhole s
   -- it started every request, with the function that it names
   pub started : AreStarted requests s.requests

@@ -22,7 +22,7 @@ events_text events = flat_map (λ (event : Event). ended (event_line event)) eve
 abbrev pub totals_text : Totals → List ℕ
 totals_text totals = ended (totals_line totals)
 
--- the lines of the requests, the lines of the journal, and the totals of the state to which it leads
+-- the lines of the requests, those of the journal, and the totals of the state to which it leads
 abbrev pub batch_text : List Answer → List Event → State → List ℕ
 batch_text answers events s =
     answers_text answers ++ (events_text events ++ totals_text (totals s))
