@@ -1,8 +1,11 @@
 -- What is said of a batch as far as its journal goes stays when the journal grows.
-use Rattle.std.proofs.Common.{◌≡◌, ℕ, ◌+◌, ◌==◌, Bool, true, false, if◌then◌else◌, List, []}
+use Rattle.std.proofs.Common.{◌≡◌, ℕ, ◌+◌, ◌-◌, ◌==◌, Bool, true, false, if◌then◌else◌, List, []}
 use Rattle.std.proofs.Common.{◌∷◌, ◌++◌, length, map, Option, None, Some, refl, sym, ◌∙◌, ap}
-use Rattle.std.proofs.Common.{subst, arith}
+use Rattle.std.proofs.Common.{subst, arith, cond}
+use Rattle.std.proofs.lemmas.Bool.Decides.{nat_tests}
+use Rattle.std.proofs.lemmas.List.{append_assoc, append-nil}
 use Rattle.std.proofs.lemmas.Option.{none-some}
+use Rattle.std.specs.List.{slice_get}
 use Rattle.journal_laws.proofs.Early.{earlier_stays}
 use Rattle.journal_laws.proofs.Naming.{closed_always}
 use Rattle.journal_model.specs.Extents.{Extents}
@@ -23,7 +26,8 @@ use Rattle.journal_model.specs.declared.state.Standing.TheVariants.{Wanted}
 use Rattle.plan_model.specs.Outline.{Outline}
 use Rattle.plan_model.specs.declared.numbers.Numbers.{Numbers}
 use Rattle.space_api.specs.declared.given.Given.{Given}
-use Rattle.batch_model.specs.Events.{is_parked_by, is_to_park, ParksRightly, BuildsRightly}
+use Rattle.batch_model.specs.Events.{is_ok, ended_ok, ok_in, is_parked_by, is_to_park}
+use Rattle.batch_model.specs.Events.{ParksRightly, ParksSoFar, BuildsRightly}
 use Rattle.batch_model.specs.Replies.{Shown, shown_in, AreGiven, ShowsClosed, IsLineOf}
 use Rattle.batch_model.specs.Replies.{AreLinesFrom}
 
@@ -78,6 +82,55 @@ parks_join numbers ok (Want i ∷ es) more p q = parks_join numbers ok es more p
 parks_join numbers ok (Answer i d u ∷ es) more (p, ps) q =
     (parked_more d es more (is_to_park numbers ok i u) p, parks_join numbers ok es more ps q)
 
+-- ---- the next line
+
+at_end : {A : Type 0} (xs : List A) (x : A) (more : List A)
+    → slice_get ((xs ++ x ∷ []) ++ more) (length xs) ≡ Some x
+at_end [] x more = refl
+at_end (y ∷ ys) x more = at_end ys x more
+
+same : (a b : ℕ) → (a == b) ≡ true → a ≡ b
+same a b h = grind (arith, nat_tests)
+
+end_push : {A : Type 0} (test : Bool) (xs : List A) (x : A) (more : List A)
+    → ((length xs + 1) == 0) ≡ test
+    → cond test None (slice_get ((xs ++ x ∷ []) ++ more) (length xs + 1 - 1)) ≡ Some x
+end_push true xs x more e =
+    let h : length xs + 1 ≡ 0 = same (length xs + 1) 0 e in absurd (omega arith)
+end_push false xs x more e =
+    ap (λ k. slice_get ((xs ++ x ∷ []) ++ more) k) (omega arith) ∙ at_end xs x more
+
+numbered_end : {A : Type 0} (xs : List A) (x : A) (more : List A)
+    → numbered ((xs ++ x ∷ []) ++ more) (length xs + 1) ≡ Some x
+unfolding numbered
+numbered_end xs x more = end_push ((length xs + 1) == 0) xs x more refl
+
+-- the line that is added says how the next request ended, whatever lines come
+pub ok_next : (answers : List AnswerLine) (answer : AnswerLine) (more : List AnswerLine)
+    → ok_in ((answers ++ answer ∷ []) ++ more) (length answers + 1) ≡ is_ok answer.end
+ok_next answers answer more = ap ended_ok (numbered_end answers answer more)
+
+-- with the next line and the events that come with it
+pub parks_next : (numbers : Numbers) (answers : List AnswerLine) (answer : AnswerLine)
+    (es later : List Event) → ParksSoFar numbers answers es
+    → ((more : List AnswerLine)
+    → ParksRightly numbers (ok_in ((answers ++ answer ∷ []) ++ more)) later)
+    → ParksSoFar numbers (answers ++ answer ∷ []) (es ++ later)
+parks_next numbers answers answer es later p q more =
+    parks_join numbers (ok_in ((answers ++ answer ∷ []) ++ more)) es later
+    (subst (λ lines. ParksRightly numbers (ok_in lines) es)
+    (sym (append_assoc answers (answer ∷ []) more)) (p (answer ∷ more)))
+    (q more)
+
+-- where no line comes any more
+pub parks_whole : (numbers : Numbers) (answers : List AnswerLine) (es : List Event)
+    → ParksSoFar numbers answers es → ParksRightly numbers (ok_in answers) es
+parks_whole numbers answers es p =
+    subst (λ lines. ParksRightly numbers (ok_in lines) es) (append-nil answers) (p [])
+
+-- ---- layers
+
+-- where the layers of each of two journals are built rightly, so are those of both in a row
 pub builds_join : (plan : Outline) (es more : List Event) → BuildsRightly plan es
     → BuildsRightly plan more → BuildsRightly plan (es ++ more)
 builds_join plan [] more p q = q
@@ -204,9 +257,10 @@ pub lines_stay : (plan : Outline) (sizes : Extents) (first later : List Event) (
     → AreLinesFrom plan more t n answers
 lines_stay plan sizes first later s t given more n [] reached on too lines = tt
 lines_stay plan sizes first later s t given more n (answer ∷ answers) reached on too
-    (line, lines) =
-    (line_stays plan sizes first later s t given more n answer reached on too line,
-    lines_stay plan sizes first later s t given more (n + 1) answers reached on too lines)
+    (line, lines) = (
+      line_stays plan sizes first later s t given more n answer reached on too line,
+      lines_stay plan sizes first later s t given more (n + 1) answers reached on too lines,
+    )
 
 -- with the line of the next request they are the lines of one request more
 pub lines_more : (plan : Outline) (given : ℕ → Option Given) (s : State) (n : ℕ)
@@ -215,6 +269,8 @@ pub lines_more : (plan : Outline) (given : ℕ → Option Given) (s : State) (n 
     → AreLinesFrom plan given s n (answers ++ answer ∷ [])
 lines_more plan given s n [] answer lines line =
     (subst (λ m. IsLineOf plan given s m answer) (omega arith) line, tt)
-lines_more plan given s n (first ∷ answers) answer (one, lines) line =
-    (one, lines_more plan given s (n + 1) answers answer lines
-    (subst (λ m. IsLineOf plan given s m answer) (omega arith) line))
+lines_more plan given s n (first ∷ answers) answer (one, lines) line = (
+  one,
+  lines_more plan given s (n + 1) answers answer lines
+      (subst (λ m. IsLineOf plan given s m answer) (omega arith) line),
+)

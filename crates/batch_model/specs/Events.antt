@@ -1,6 +1,6 @@
 -- What the events of a batch owe its lines and its plan, beside that they are legal.
 use Rattle.std.specs.Prelude.{◌≡◌, ℕ, ◌+◌, ◌==◌, Bool, true, false, ◌&&◌, if◌then◌else◌}
-use Rattle.std.specs.Prelude.{nat_le, nat_lt, List, [], ◌∷◌, Option, None, Some, slice_get}
+use Rattle.std.specs.Prelude.{nat_le, nat_lt, List, [], ◌∷◌, ◌++◌, Option, None, Some, slice_get}
 use Rattle.journal_model.specs.State.{numbered}
 use Rattle.journal_model.specs.declared.answer.Answer.{Answer as AnswerLine}
 use Rattle.journal_model.specs.declared.answer.End.{End as Ending}
@@ -80,6 +80,11 @@ ParksRightly numbers ok (Refuse i ∷ es) = ParksRightly numbers ok es
 ParksRightly numbers ok (Want i ∷ es) = ParksRightly numbers ok es
 ParksRightly numbers ok (Answer i c u ∷ es) =
     (is_parked_by c es ≡ Some (is_to_park numbers ok i u)) × ParksRightly numbers ok es
+
+-- The same of a journal as far as it goes, with the lines that there are: whatever lines come.
+abbrev pub ParksSoFar : Numbers → List AnswerLine → List Event → Type 0
+ParksSoFar numbers answers events =
+    (more : List AnswerLine) → ParksRightly numbers (ok_in (answers ++ more)) events
 
 -- ---- layers that are built
 
