@@ -51,7 +51,7 @@ answered_line plan given s i answer f h c u place before own reply replied end s
 
 -- ---- three requests, with room for an idle context
 
-pub hot_line1 : IsLineOf (plans.counting 1 64) (given_of rows.thrice rows.hot_state) rows.hot_state 1 rows.hot_first
+hot_line1 : IsLineOf (plans.counting 1 64) (given_of rows.thrice rows.hot_state) rows.hot_state 1 rows.hot_first
 unfolding numbered service_of earlier answers_below answer_from
 hot_line1 = answered_line (plans.counting 1 64) (given_of rows.thrice rows.hot_state) rows.hot_state 1
     rows.hot_first 0 how.Cold 1 0 (Some 0) [] (given 1 0)
@@ -65,7 +65,7 @@ hot_line2 = answered_line (plans.counting 1 64) (given_of rows.thrice rows.hot_s
     (rested 15 2)
     (machines.counting_second 1 64) refl refl refl refl refl refl refl refl refl refl refl
 
-pub hot_line3 : IsLineOf (plans.counting 1 64) (given_of rows.thrice rows.hot_state) rows.hot_state 3 rows.hot_third
+hot_line3 : IsLineOf (plans.counting 1 64) (given_of rows.thrice rows.hot_state) rows.hot_state 3 rows.hot_third
 unfolding numbered service_of earlier answers_below answer_from
 hot_line3 = answered_line (plans.counting 1 64) (given_of rows.thrice rows.hot_state) rows.hot_state 3
     rows.hot_third 0 how.Hot 1 2 (Some 0) (given 1 0 ∷ given 1 0 ∷ []) (given 1 0)
@@ -79,7 +79,7 @@ hot_lines = record { count = refl; lines = (hot_line1, (hot_line2, (hot_line3, t
 hot_builds : BuildsRightly (plans.counting 1 64) rows.hot_events
 hot_builds = (machines.counting_built 1 64, tt)
 
-pub hot_right : IsRight (copied (plans.counting 1 64)) rows.thrice rows.hot_answers rows.hot_events
+hot_right : IsRight (copied (plans.counting 1 64)) rows.thrice rows.hot_answers rows.hot_events
     rows.hot_state
 hot_right = record {
   journal = journals.hot_journal;
@@ -100,21 +100,21 @@ hot_fits = record {
 
 -- ---- with no room for one
 
-pub warm_line1 : IsLineOf (plans.counting 0 64) (given_of rows.thrice rows.warm_state) rows.warm_state 1 rows.hot_first
+warm_line1 : IsLineOf (plans.counting 0 64) (given_of rows.thrice rows.warm_state) rows.warm_state 1 rows.hot_first
 unfolding numbered service_of earlier answers_below answer_from
 warm_line1 = answered_line (plans.counting 0 64) (given_of rows.thrice rows.warm_state) rows.warm_state 1
     rows.hot_first 0 how.Cold 1 0 (Some 0) [] (given 1 0)
     (rested 17 1)
     (machines.counting_first 0 64) refl refl refl refl refl refl refl refl refl refl refl
 
-pub warm_line2 : IsLineOf (plans.counting 0 64) (given_of rows.thrice rows.warm_state) rows.warm_state 2 rows.warm_second
+warm_line2 : IsLineOf (plans.counting 0 64) (given_of rows.thrice rows.warm_state) rows.warm_state 2 rows.warm_second
 unfolding numbered service_of earlier answers_below answer_from
 warm_line2 = answered_line (plans.counting 0 64) (given_of rows.thrice rows.warm_state) rows.warm_state 2
     rows.warm_second 0 how.Warm 2 0 (Some 0) [] (given 1 0)
     (rested 17 1)
     (machines.counting_first 0 64) refl refl refl refl refl refl refl refl refl refl refl
 
-pub warm_line3 : IsLineOf (plans.counting 0 64) (given_of rows.thrice rows.warm_state) rows.warm_state 3 rows.warm_third
+warm_line3 : IsLineOf (plans.counting 0 64) (given_of rows.thrice rows.warm_state) rows.warm_state 3 rows.warm_third
 unfolding numbered service_of earlier answers_below answer_from
 warm_line3 = answered_line (plans.counting 0 64) (given_of rows.thrice rows.warm_state) rows.warm_state 3
     rows.warm_third 0 how.Warm 3 0 (Some 0) [] (given 1 0)
@@ -128,7 +128,7 @@ warm_lines = record { count = refl; lines = (warm_line1, (warm_line2, (warm_line
 warm_builds : BuildsRightly (plans.counting 0 64) rows.warm_events
 warm_builds = (machines.counting_built 0 64, tt)
 
-pub warm_right : IsRight (copied (plans.counting 0 64)) rows.thrice rows.warm_answers rows.warm_events
+warm_right : IsRight (copied (plans.counting 0 64)) rows.thrice rows.warm_answers rows.warm_events
     rows.warm_state
 warm_right = record {
   journal = journals.warm_journal;
@@ -149,21 +149,21 @@ warm_fits = record {
 
 -- ---- where a context may answer two requests
 
-pub worn_line1 : IsLineOf (plans.counting 1 2) (given_of rows.thrice rows.worn_state) rows.worn_state 1 rows.hot_first
+worn_line1 : IsLineOf (plans.counting 1 2) (given_of rows.thrice rows.worn_state) rows.worn_state 1 rows.hot_first
 unfolding numbered service_of earlier answers_below answer_from
 worn_line1 = answered_line (plans.counting 1 2) (given_of rows.thrice rows.worn_state) rows.worn_state 1
     rows.hot_first 0 how.Cold 1 0 (Some 0) [] (given 1 0)
     (rested 17 1)
     (machines.counting_first 1 2) refl refl refl refl refl refl refl refl refl refl refl
 
-pub worn_line2 : IsLineOf (plans.counting 1 2) (given_of rows.thrice rows.worn_state) rows.worn_state 2 rows.hot_second
+worn_line2 : IsLineOf (plans.counting 1 2) (given_of rows.thrice rows.worn_state) rows.worn_state 2 rows.hot_second
 unfolding numbered service_of earlier answers_below answer_from
 worn_line2 = answered_line (plans.counting 1 2) (given_of rows.thrice rows.worn_state) rows.worn_state 2
     rows.hot_second 0 how.Hot 1 1 (Some 0) (given 1 0 ∷ []) (given 1 0)
     (rested 15 2)
     (machines.counting_second 1 2) refl refl refl refl refl refl refl refl refl refl refl
 
-pub worn_line3 : IsLineOf (plans.counting 1 2) (given_of rows.thrice rows.worn_state) rows.worn_state 3 rows.worn_third
+worn_line3 : IsLineOf (plans.counting 1 2) (given_of rows.thrice rows.worn_state) rows.worn_state 3 rows.worn_third
 unfolding numbered service_of earlier answers_below answer_from
 worn_line3 = answered_line (plans.counting 1 2) (given_of rows.thrice rows.worn_state) rows.worn_state 3
     rows.worn_third 0 how.Warm 2 0 (Some 0) [] (given 1 0)
@@ -177,7 +177,7 @@ worn_lines = record { count = refl; lines = (worn_line1, (worn_line2, (worn_line
 worn_builds : BuildsRightly (plans.counting 1 2) rows.worn_events
 worn_builds = (machines.counting_built 1 2, tt)
 
-pub worn_right : IsRight (copied (plans.counting 1 2)) rows.thrice rows.worn_answers rows.worn_events
+worn_right : IsRight (copied (plans.counting 1 2)) rows.thrice rows.worn_answers rows.worn_events
     rows.worn_state
 worn_right = record {
   journal = journals.worn_journal;
@@ -198,7 +198,7 @@ worn_fits = record {
 
 -- ---- through three layers
 
-pub three_line1 : IsLineOf plans.three (given_of rows.one_three rows.three_state) rows.three_state 1 rows.three_first
+three_line1 : IsLineOf plans.three (given_of rows.one_three rows.three_state) rows.three_state 1 rows.three_first
 unfolding numbered service_of earlier answers_below answer_from
 three_line1 = answered_line plans.three (given_of rows.one_three rows.three_state) rows.three_state 1
     rows.three_first 0 how.Cold 1 0 (Some 2) [] (given 3 0)
@@ -212,7 +212,7 @@ three_lines = record { count = refl; lines = (three_line1, tt) }
 three_builds : BuildsRightly plans.three rows.three_events
 three_builds = (machines.three0_built, (machines.three1_built, (machines.three2_built, tt)))
 
-pub three_right : IsRight (copied plans.three) rows.one_three rows.three_answers rows.three_events
+three_right : IsRight (copied plans.three) rows.one_three rows.three_answers rows.three_events
     rows.three_state
 three_right = record {
   journal = journals.three_journal;
@@ -233,14 +233,14 @@ three_fits = record {
 
 -- ---- a layer that isn't there
 
-pub spinning_line1 : IsLineOf plans.spinning (given_of rows.empty_twice rows.spinning_state) rows.spinning_state 1 rows.spinning_first
+spinning_line1 : IsLineOf plans.spinning (given_of rows.empty_twice rows.spinning_state) rows.spinning_state 1 rows.spinning_first
 unfolding numbered service_of earlier answers_below answer_from
 spinning_line1 = answered_line plans.spinning (given_of rows.empty_twice rows.spinning_state) rows.spinning_state 1
     rows.spinning_first 0 how.Cold 1 0 None [] machines.empty
     (record { ending = NoLayer 0 Budget; number = 0; packets = []; console = [] })
     machines.spinning_miss refl refl refl refl refl refl refl refl refl refl refl
 
-pub spinning_line2 : IsLineOf plans.spinning (given_of rows.empty_twice rows.spinning_state) rows.spinning_state 2 rows.spinning_second
+spinning_line2 : IsLineOf plans.spinning (given_of rows.empty_twice rows.spinning_state) rows.spinning_state 2 rows.spinning_second
 unfolding numbered service_of earlier answers_below answer_from
 spinning_line2 = answered_line plans.spinning (given_of rows.empty_twice rows.spinning_state) rows.spinning_state 2
     rows.spinning_second 0 how.Cold 2 0 None [] machines.empty
@@ -254,7 +254,7 @@ spinning_lines = record { count = refl; lines = (spinning_line1, (spinning_line2
 spinning_builds : BuildsRightly plans.spinning rows.spinning_events
 spinning_builds = tt
 
-pub spinning_right : IsRight (copied plans.spinning) rows.empty_twice rows.spinning_answers rows.spinning_events
+spinning_right : IsRight (copied plans.spinning) rows.empty_twice rows.spinning_answers rows.spinning_events
     rows.spinning_state
 spinning_right = record {
   journal = journals.spinning_journal;
@@ -275,21 +275,21 @@ spinning_fits = record {
 
 -- ---- two functions
 
-pub two_line1 : IsLineOf plans.two (given_of rows.mixed rows.two_state) rows.two_state 1 rows.hot_first
+two_line1 : IsLineOf plans.two (given_of rows.mixed rows.two_state) rows.two_state 1 rows.hot_first
 unfolding numbered service_of earlier answers_below answer_from
 two_line1 = answered_line plans.two (given_of rows.mixed rows.two_state) rows.two_state 1
     rows.hot_first 0 how.Cold 1 0 (Some 0) [] (given 1 0)
     (rested 17 1)
     machines.two_first refl refl refl refl refl refl refl refl refl refl refl
 
-pub two_line2 : IsLineOf plans.two (given_of rows.mixed rows.two_state) rows.two_state 2 rows.two_second
+two_line2 : IsLineOf plans.two (given_of rows.mixed rows.two_state) rows.two_state 2 rows.two_second
 unfolding numbered service_of earlier answers_below answer_from
 two_line2 = answered_line plans.two (given_of rows.mixed rows.two_state) rows.two_state 2
     rows.two_second 1 how.Cold 2 0 (Some 1) [] (given 5 0)
     (rested 17 5)
     machines.two_other refl refl refl refl refl refl refl refl refl refl refl
 
-pub two_line3 : IsLineOf plans.two (given_of rows.mixed rows.two_state) rows.two_state 3 rows.two_third
+two_line3 : IsLineOf plans.two (given_of rows.mixed rows.two_state) rows.two_state 3 rows.two_third
 unfolding numbered service_of earlier answers_below answer_from
 two_line3 = answered_line plans.two (given_of rows.mixed rows.two_state) rows.two_state 3
     rows.two_third 0 how.Hot 1 1 (Some 0) (given 1 0 ∷ []) (given 2 0)
@@ -303,7 +303,7 @@ two_lines = record { count = refl; lines = (two_line1, (two_line2, (two_line3, t
 two_builds : BuildsRightly plans.two rows.two_events
 two_builds = (machines.first0_built, (machines.second0_built, tt))
 
-pub two_right : IsRight (copied plans.two) rows.mixed rows.two_answers rows.two_events
+two_right : IsRight (copied plans.two) rows.mixed rows.two_answers rows.two_events
     rows.two_state
 two_right = record {
   journal = journals.two_journal;
@@ -324,7 +324,7 @@ two_fits = record {
 
 -- ---- a fault
 
-pub breaking_line1 : IsLineOf plans.breaking (given_of rows.once rows.breaking_state) rows.breaking_state 1 rows.breaking_first
+breaking_line1 : IsLineOf plans.breaking (given_of rows.once rows.breaking_state) rows.breaking_state 1 rows.breaking_first
 unfolding numbered service_of earlier answers_below answer_from
 breaking_line1 = answered_line plans.breaking (given_of rows.once rows.breaking_state) rows.breaking_state 1
     rows.breaking_first 0 how.Cold 1 0 (Some 0) [] (given 1 0)
@@ -338,7 +338,7 @@ breaking_lines = record { count = refl; lines = (breaking_line1, tt) }
 breaking_builds : BuildsRightly plans.breaking rows.breaking_events
 breaking_builds = (machines.breaking0_built, tt)
 
-pub breaking_right : IsRight (copied plans.breaking) rows.once rows.breaking_answers rows.breaking_events
+breaking_right : IsRight (copied plans.breaking) rows.once rows.breaking_answers rows.breaking_events
     rows.breaking_state
 breaking_right = record {
   journal = journals.breaking_journal;
@@ -359,7 +359,7 @@ breaking_fits = record {
 
 -- ---- no memory
 
-wanted_line1 : IsLineOf (plans.counting 1 64) (given_of rows.twice rows.wanted_state) rows.wanted_state 1 rows.wanted_first
+pub wanted_line1 : IsLineOf (plans.counting 1 64) (given_of rows.twice rows.wanted_state) rows.wanted_state 1 rows.wanted_first
 unfolding numbered service_of earlier answers_below answer_from
 wanted_line1 = record {
   number_is = refl;
@@ -390,7 +390,7 @@ wanted_lines = record { count = refl; lines = (wanted_line1, (wanted_line2, tt))
 wanted_builds : BuildsRightly (plans.counting 1 64) rows.wanted_events
 wanted_builds = tt
 
-pub wanted_right : IsRight (copied (plans.counting 1 64)) rows.twice rows.wanted_answers rows.wanted_events
+wanted_right : IsRight (copied (plans.counting 1 64)) rows.twice rows.wanted_answers rows.wanted_events
     rows.wanted_state
 wanted_right = record {
   journal = journals.wanted_journal;

@@ -1,12 +1,13 @@
 -- The journals of worked batches, computed: that each is legal and whole, and started its requests;
 -- which contexts are parked; and how it is spelled, with its lines.
-use Rattle.std.proofs.Common.{◌≡◌, false, Some, List, refl}
+use Rattle.std.proofs.Common.{◌≡◌, false, Some, List, [], ◌∷◌, refl}
 use Rattle.std.proofs.lemmas.List.Elements.{All-from_recursion}
 use Rattle.std.specs.Fmt.{digits}
 use Rattle.batch_model.specs.Events.{ParksRightly, ok_in, is_parked_by}
 use Rattle.batch_model.specs.Fits.{IsWholeJournal}
 use Rattle.batch_model.specs.Setting.{Setting, sizes_of}
 use Rattle.batch_model.specs.Text.{batch_text}
+use Rattle.batch_model_tests.specs.Misfits as misfits
 use Rattle.batch_model_tests.specs.Plans as plans
 use Rattle.batch_model_tests.specs.Plans.{copied}
 use Rattle.batch_model_tests.specs.Rows as rows
@@ -16,18 +17,19 @@ use Rattle.journal_model.specs.Legal as legal
 use Rattle.journal_model.specs.State.{State}
 use Rattle.journal_model.specs.State as states
 use Rattle.journal_model.specs.declared.event.Event.{Event}
+use Rattle.journal_model.specs.declared.event.Event.TheVariants.{End}
 use Rattle.journal_model.specs.declared.state.ContextState.{ContextState}
 use Rattle.journal_model.specs.declared.state.RequestState.{RequestState}
 use Rattle.plan_model.specs.Stacks.{top_layers}
 use Rattle.request_lines.specs.declared.request.Request.{Request}
 
-abbrev Reaches : Setting → List Request → List Event → State → Type 0
+abbrev pub Reaches : Setting → List Request → List Event → State → Type 0
 Reaches setting requests events s =
     after_all (sizes_of setting requests) (at_first (sizes_of setting requests)) events ≡ Some s
 
 -- ---- three requests, with room for an idle context
 
-hot_reached : Reaches (copied (plans.counting 1 64)) rows.thrice rows.hot_events rows.hot_state
+pub hot_reached : Reaches (copied (plans.counting 1 64)) rows.thrice rows.hot_events rows.hot_state
 unfolding after_all top_layers legal.may_start legal.may_take legal.may_deploy legal.may_build
     legal.may_drop legal.may_answer legal.may_end legal.may_want legal.after_start legal.after_take
     legal.after_deploy legal.after_built legal.after_keep legal.after_drop legal.after_answer
@@ -272,7 +274,7 @@ breaking_spelled = refl
 
 -- ---- no memory
 
-wanted_reached : Reaches (copied (plans.counting 1 64)) rows.twice rows.wanted_events rows.wanted_state
+pub wanted_reached : Reaches (copied (plans.counting 1 64)) rows.twice rows.wanted_events rows.wanted_state
 unfolding after_all top_layers legal.may_start legal.may_take legal.may_deploy legal.may_build
     legal.may_drop legal.may_answer legal.may_end legal.may_want legal.after_start legal.after_take
     legal.after_deploy legal.after_built legal.after_keep legal.after_drop legal.after_answer
@@ -304,3 +306,105 @@ wanted_parks = tt
 pub wanted_spelled : rows.wanted_text ≡ batch_text rows.wanted_answers rows.wanted_events rows.wanted_state
 unfolding totals digits
 wanted_spelled = refl
+
+-- ---- journals that are legal, and not right
+
+ended_reached : Reaches (copied (plans.counting 1 64)) rows.thrice (misfits.ended_with (End 1 ∷ [])) misfits.ended_state
+unfolding after_all top_layers legal.may_start legal.may_take legal.may_deploy legal.may_build
+    legal.may_drop legal.may_answer legal.may_end legal.may_want legal.after_start legal.after_take
+    legal.after_deploy legal.after_built legal.after_keep legal.after_drop legal.after_answer
+    legal.after_park legal.after_end legal.after_standing legal.is_open legal.is_failed
+    legal.is_waiting legal.request_function legal.first_for legal.serves legal.served_by
+    legal.has_answered legal.above legal.place_of legal.answered_by legal.given_to
+    legal.owed_after_built legal.owed_after_answer legal.with_numbered legal.with_duty
+    legal.with_layer legal.with_used legal.with_standing legal.with_service states.numbered
+    states.contains states.without states.stack_of states.layer_above states.highest_kept
+ended_reached = refl
+
+pub ended_journal : IsWholeJournal (copied (plans.counting 1 64)) rows.thrice (misfits.ended_with (End 1 ∷ [])) misfits.ended_state
+ended_journal = record {
+  reached = ended_reached;
+  nothing_owed = refl;
+  whole = record {
+    requests = All-from_recursion (λ (r : RequestState). is_open_standing r.standing ≡ false)
+        misfits.ended_state.requests (refl, (refl, (refl, tt)));
+    contexts = All-from_recursion (λ (x : ContextState). is_busy_duty x.duty ≡ false)
+        misfits.ended_state.contexts (refl, tt);
+  };
+  started = refl;
+}
+
+parked_reached : Reaches (copied plans.breaking) rows.once misfits.parked_events misfits.parked_state
+unfolding after_all top_layers legal.may_start legal.may_take legal.may_deploy legal.may_build
+    legal.may_drop legal.may_answer legal.may_end legal.may_want legal.after_start legal.after_take
+    legal.after_deploy legal.after_built legal.after_keep legal.after_drop legal.after_answer
+    legal.after_park legal.after_end legal.after_standing legal.is_open legal.is_failed
+    legal.is_waiting legal.request_function legal.first_for legal.serves legal.served_by
+    legal.has_answered legal.above legal.place_of legal.answered_by legal.given_to
+    legal.owed_after_built legal.owed_after_answer legal.with_numbered legal.with_duty
+    legal.with_layer legal.with_used legal.with_standing legal.with_service states.numbered
+    states.contains states.without states.stack_of states.layer_above states.highest_kept
+parked_reached = refl
+
+pub parked_journal : IsWholeJournal (copied plans.breaking) rows.once misfits.parked_events misfits.parked_state
+parked_journal = record {
+  reached = parked_reached;
+  nothing_owed = refl;
+  whole = record {
+    requests = All-from_recursion (λ (r : RequestState). is_open_standing r.standing ≡ false)
+        misfits.parked_state.requests (refl, tt);
+    contexts = All-from_recursion (λ (x : ContextState). is_busy_duty x.duty ≡ false)
+        misfits.parked_state.contexts (refl, tt);
+  };
+  started = refl;
+}
+
+fewer_reached : Reaches (copied (plans.counting 1 64)) rows.thrice (misfits.built_with 0) rows.hot_state
+unfolding after_all top_layers legal.may_start legal.may_take legal.may_deploy legal.may_build
+    legal.may_drop legal.may_answer legal.may_end legal.may_want legal.after_start legal.after_take
+    legal.after_deploy legal.after_built legal.after_keep legal.after_drop legal.after_answer
+    legal.after_park legal.after_end legal.after_standing legal.is_open legal.is_failed
+    legal.is_waiting legal.request_function legal.first_for legal.serves legal.served_by
+    legal.has_answered legal.above legal.place_of legal.answered_by legal.given_to
+    legal.owed_after_built legal.owed_after_answer legal.with_numbered legal.with_duty
+    legal.with_layer legal.with_used legal.with_standing legal.with_service states.numbered
+    states.contains states.without states.stack_of states.layer_above states.highest_kept
+fewer_reached = refl
+
+pub fewer_journal : IsWholeJournal (copied (plans.counting 1 64)) rows.thrice (misfits.built_with 0) rows.hot_state
+fewer_journal = record {
+  reached = fewer_reached;
+  nothing_owed = refl;
+  whole = record {
+    requests = All-from_recursion (λ (r : RequestState). is_open_standing r.standing ≡ false)
+        rows.hot_state.requests (refl, (refl, (refl, tt)));
+    contexts = All-from_recursion (λ (x : ContextState). is_busy_duty x.duty ≡ false)
+        rows.hot_state.contexts (refl, tt);
+  };
+  started = refl;
+}
+
+more_reached : Reaches (copied (plans.counting 1 64)) rows.thrice (misfits.built_with 2) rows.hot_state
+unfolding after_all top_layers legal.may_start legal.may_take legal.may_deploy legal.may_build
+    legal.may_drop legal.may_answer legal.may_end legal.may_want legal.after_start legal.after_take
+    legal.after_deploy legal.after_built legal.after_keep legal.after_drop legal.after_answer
+    legal.after_park legal.after_end legal.after_standing legal.is_open legal.is_failed
+    legal.is_waiting legal.request_function legal.first_for legal.serves legal.served_by
+    legal.has_answered legal.above legal.place_of legal.answered_by legal.given_to
+    legal.owed_after_built legal.owed_after_answer legal.with_numbered legal.with_duty
+    legal.with_layer legal.with_used legal.with_standing legal.with_service states.numbered
+    states.contains states.without states.stack_of states.layer_above states.highest_kept
+more_reached = refl
+
+pub more_journal : IsWholeJournal (copied (plans.counting 1 64)) rows.thrice (misfits.built_with 2) rows.hot_state
+more_journal = record {
+  reached = more_reached;
+  nothing_owed = refl;
+  whole = record {
+    requests = All-from_recursion (λ (r : RequestState). is_open_standing r.standing ≡ false)
+        rows.hot_state.requests (refl, (refl, (refl, tt)));
+    contexts = All-from_recursion (λ (x : ContextState). is_busy_duty x.duty ≡ false)
+        rows.hot_state.contexts (refl, tt);
+  };
+  started = refl;
+}

@@ -1,3 +1,4 @@
 pub mod Fitting
 pub mod Journals
 pub mod Machines
+pub mod Refusing

@@ -2,7 +2,7 @@
 -- their replies.
 use Rattle.std.proofs.Common.{◌≡◌, ℕ, zero, suc, ◌<◌, ◌≤◌, ◌==◌, ◌||◌, Bool, true, false, [], ◌∷◌}
 use Rattle.std.proofs.Common.{List, Option, Some, None, is_some, slice_get, refl, sym, ◌∙◌, ap}
-use Rattle.std.proofs.Common.{subst, arith, inl, inr, if◌then◌else◌}
+use Rattle.std.proofs.Common.{subst, arith, inl, inr}
 use Rattle.std.proofs.lemmas.Bool.{cases_eq}
 use Rattle.std.proofs.lemmas.Bool.Decides.{nat_tests}
 use Rattle.std.specs.Prelude.{codes}
@@ -216,7 +216,6 @@ module _ (idle uses : ℕ) where
   counting_third = reply_by (plans.counting idle uses) 0 (named (codes "f") 0) loop0
       (given 1 0 ∷ given 1 0 ∷ []) (given 1 0) count2
       (record { function_is = refl; layer_is = refl }) count2_served refl
-
 
 -- ---- three layers
 

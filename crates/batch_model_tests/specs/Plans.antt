@@ -1,5 +1,5 @@
 -- Plans of worked batches, and requests.
-use Rattle.std.specs.Prelude.{ℕ, true, List, [], ◌∷◌, Some, None, codes}
+use Rattle.std.specs.Prelude.{ℕ, true, [], ◌∷◌, None, codes}
 use Rattle.batch_model.specs.Setting.{Setting}
 use Rattle.image_model.specs.Layout.{Layout}
 use Rattle.layer_model_tests.specs.Plans.{layout_of, count, spin, at_loop, layer, plan_of}
