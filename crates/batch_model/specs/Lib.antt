@@ -1,3 +1,4 @@
+pub mod Closings
 pub mod Events
 pub mod Fits
 pub mod Replies

@@ -1,6 +1,9 @@
 //! Laws of batches. A function here does nothing: its contract is the law.
 
-ghost use Rattle.std.specs.Prelude.{◌≡◌, ◌+◌, ◌++◌, ◌∷◌, [], ℕ, Bool, List, Option, Some, length};
+ghost use Rattle.std.specs.Prelude.{◌≡◌, ◌↔◌, ◌+◌, ◌++◌, ◌∷◌, [], ℕ, Bool, true, List, length};
+ghost use Rattle.std.specs.Prelude.{Option, Some};
+ghost use Rattle.std.specs.List.{list_any};
+ghost use Rattle.batch_model.specs.Closings.{refuses, wants};
 ghost use Rattle.batch_model.specs.Events.{BuildsRightly, IsBuilt, ParksRightly, ParksSoFar};
 ghost use Rattle.batch_model.specs.Events.{is_ok, ok_in};
 ghost use Rattle.batch_model.specs.Replies.{AreLinesFrom, IsLineOf};
@@ -8,6 +11,7 @@ ghost use Rattle.journal_model.specs.Extents.{Extents};
 ghost use Rattle.journal_model.specs.Legal.{after_all, at_first};
 ghost use Rattle.journal_model.specs.State.{State};
 ghost use Rattle.journal_model.specs.declared.answer.Answer.{Answer};
+ghost use Rattle.journal_model.specs.declared.answer.End.TheVariants as ends;
 ghost use Rattle.journal_model.specs.declared.event.Event.{Event};
 ghost use Rattle.plan_model.specs.Outline.{Outline};
 ghost use Rattle.plan_model.specs.declared.numbers.Numbers.{Numbers};
@@ -51,4 +55,17 @@ pub fn batches_are_fixed()
         (a b : Answer) → IsLineOf plan given s i a → IsLineOf plan given s i b → a ≡ b }
     ensures pages { (plan : Outline) (number a b : ℕ) → IsBuilt plan number a →
         IsBuilt plan number b → a ≡ b }
+{}
+
+/// A request's line says `frames` exactly where the journal has the request's `refuse`, and `memory`
+/// exactly where it has its `want`.
+pub fn ends_are_the_journals()
+    ensures frames { (plan : Outline) (given : ℕ → Option Given) (sizes : Extents)
+        (events : List Event) (s : State) (i : ℕ) (answer : Answer) →
+        after_all sizes (at_first sizes) events ≡ Some s → IsLineOf plan given s i answer →
+        (answer.end ≡ ends.Frames) ↔ (list_any (refuses i) events ≡ true) }
+    ensures memory { (plan : Outline) (given : ℕ → Option Given) (sizes : Extents)
+        (events : List Event) (s : State) (i : ℕ) (answer : Answer) →
+        after_all sizes (at_first sizes) events ≡ Some s → IsLineOf plan given s i answer →
+        (answer.end ≡ ends.Memory) ↔ (list_any (wants i) events ≡ true) }
 {}
