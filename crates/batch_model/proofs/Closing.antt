@@ -1,7 +1,8 @@
 -- A request was refused exactly where the journal has its `refuse`, and wanted exactly where it has
 -- its `want`; so its line says `frames` or `memory` exactly there.
-use Rattle.std.proofs.Common.{◌≡◌, ◌↔◌, ℕ, ◌+◌, ◌-◌, ◌==◌, ◌||◌, Bool, true, false, List, [], ◌∷◌, ◌++◌}
-use Rattle.std.proofs.Common.{length, Option, None, Some, refl, sym, ◌∙◌, ap, subst, inl, inr, cond}
+use Rattle.std.proofs.Common.{◌≡◌, ◌↔◌, ℕ, ◌+◌, ◌-◌, ◌==◌, ◌||◌, Bool, true, false, List, []}
+use Rattle.std.proofs.Common.{◌∷◌, ◌++◌, length, Option, None, Some, refl, sym, ◌∙◌, ap, subst}
+use Rattle.std.proofs.Common.{inl, inr, cond}
 use Rattle.std.proofs.lemmas.Option.{none-some}
 use Rattle.std.specs.List.{list_any, slice_get}
 use Rattle.batch_model.specs.Closings.{refuses, wants}
@@ -251,8 +252,8 @@ none_there i = none_at (i == 0) (i - 1)
 
 -- ---- exactly `refuse i`
 
-refused_by : (sizes : Extents) (s : State) (e : Event) (t : State) (i : ℕ) → after sizes s e ≡ Some t
-    → refuses i e ≡ true → refused i t ≡ true
+refused_by : (sizes : Extents) (s : State) (e : Event) (t : State) (i : ℕ)
+    → after sizes s e ≡ Some t → refuses i e ≡ true → refused i t ≡ true
 refused_by sizes s (Start j f z) t i h is = absurd (cc)
 refused_by sizes s (Take c j) t i h is = absurd (cc)
 refused_by sizes s (Deploy c k j n) t i h is = absurd (cc)
@@ -328,8 +329,8 @@ refused_exactly sizes es s i h = (
 
 -- ---- exactly `want i`
 
-wanted_by : (sizes : Extents) (s : State) (e : Event) (t : State) (i : ℕ) → after sizes s e ≡ Some t
-    → wants i e ≡ true → wanted i t ≡ true
+wanted_by : (sizes : Extents) (s : State) (e : Event) (t : State) (i : ℕ)
+    → after sizes s e ≡ Some t → wants i e ≡ true → wanted i t ≡ true
 wanted_by sizes s (Start j f z) t i h is = absurd (cc)
 wanted_by sizes s (Take c j) t i h is = absurd (cc)
 wanted_by sizes s (Deploy c k j n) t i h is = absurd (cc)

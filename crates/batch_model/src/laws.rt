@@ -57,8 +57,8 @@ pub fn batches_are_fixed()
         IsBuilt plan number b → a ≡ b }
 {}
 
-/// A request's line says `frames` exactly where the journal has the request's `refuse`, and `memory`
-/// exactly where it has its `want`.
+/// A request's line says `frames` exactly where the journal has its `refuse`, and `memory` exactly
+/// where it has its `want`.
 pub fn ends_are_the_journals()
     ensures frames { (plan : Outline) (given : ℕ → Option Given) (sizes : Extents)
         (events : List Event) (s : State) (i : ℕ) (answer : Answer) →

@@ -51,24 +51,27 @@ answered_line plan given s i answer f h c u place before own reply replied end s
 
 -- ---- three requests, with room for an idle context
 
-hot_line1 : IsLineOf (plans.counting 1 64) (given_of rows.thrice rows.hot_state) rows.hot_state 1 rows.hot_first
+hot_line1 : IsLineOf (plans.counting 1 64) (given_of rows.thrice rows.hot_state) rows.hot_state 1
+    rows.hot_first
 unfolding numbered service_of earlier answers_below answer_from
-hot_line1 = answered_line (plans.counting 1 64) (given_of rows.thrice rows.hot_state) rows.hot_state 1
-    rows.hot_first 0 how.Cold 1 0 (Some 0) [] (given 1 0)
+hot_line1 = answered_line (plans.counting 1 64) (given_of rows.thrice rows.hot_state)
+    rows.hot_state 1 rows.hot_first 0 how.Cold 1 0 (Some 0) [] (given 1 0)
     (rested 17 1)
     (machines.counting_first 1 64) refl refl refl refl refl refl refl refl refl refl refl
 
-pub hot_line2 : IsLineOf (plans.counting 1 64) (given_of rows.thrice rows.hot_state) rows.hot_state 2 rows.hot_second
+pub hot_line2 : IsLineOf (plans.counting 1 64) (given_of rows.thrice rows.hot_state)
+    rows.hot_state 2 rows.hot_second
 unfolding numbered service_of earlier answers_below answer_from
-hot_line2 = answered_line (plans.counting 1 64) (given_of rows.thrice rows.hot_state) rows.hot_state 2
-    rows.hot_second 0 how.Hot 1 1 (Some 0) (given 1 0 ∷ []) (given 1 0)
+hot_line2 = answered_line (plans.counting 1 64) (given_of rows.thrice rows.hot_state)
+    rows.hot_state 2 rows.hot_second 0 how.Hot 1 1 (Some 0) (given 1 0 ∷ []) (given 1 0)
     (rested 15 2)
     (machines.counting_second 1 64) refl refl refl refl refl refl refl refl refl refl refl
 
-hot_line3 : IsLineOf (plans.counting 1 64) (given_of rows.thrice rows.hot_state) rows.hot_state 3 rows.hot_third
+hot_line3 : IsLineOf (plans.counting 1 64) (given_of rows.thrice rows.hot_state) rows.hot_state 3
+    rows.hot_third
 unfolding numbered service_of earlier answers_below answer_from
-hot_line3 = answered_line (plans.counting 1 64) (given_of rows.thrice rows.hot_state) rows.hot_state 3
-    rows.hot_third 0 how.Hot 1 2 (Some 0) (given 1 0 ∷ given 1 0 ∷ []) (given 1 0)
+hot_line3 = answered_line (plans.counting 1 64) (given_of rows.thrice rows.hot_state)
+    rows.hot_state 3 rows.hot_third 0 how.Hot 1 2 (Some 0) (given 1 0 ∷ given 1 0 ∷ []) (given 1 0)
     (rested 15 3)
     (machines.counting_third 1 64) refl refl refl refl refl refl refl refl refl refl refl
 
@@ -100,24 +103,27 @@ hot_fits = record {
 
 -- ---- with no room for one
 
-warm_line1 : IsLineOf (plans.counting 0 64) (given_of rows.thrice rows.warm_state) rows.warm_state 1 rows.hot_first
+warm_line1 : IsLineOf (plans.counting 0 64) (given_of rows.thrice rows.warm_state) rows.warm_state
+    1 rows.hot_first
 unfolding numbered service_of earlier answers_below answer_from
-warm_line1 = answered_line (plans.counting 0 64) (given_of rows.thrice rows.warm_state) rows.warm_state 1
-    rows.hot_first 0 how.Cold 1 0 (Some 0) [] (given 1 0)
+warm_line1 = answered_line (plans.counting 0 64) (given_of rows.thrice rows.warm_state)
+    rows.warm_state 1 rows.hot_first 0 how.Cold 1 0 (Some 0) [] (given 1 0)
     (rested 17 1)
     (machines.counting_first 0 64) refl refl refl refl refl refl refl refl refl refl refl
 
-warm_line2 : IsLineOf (plans.counting 0 64) (given_of rows.thrice rows.warm_state) rows.warm_state 2 rows.warm_second
+warm_line2 : IsLineOf (plans.counting 0 64) (given_of rows.thrice rows.warm_state) rows.warm_state
+    2 rows.warm_second
 unfolding numbered service_of earlier answers_below answer_from
-warm_line2 = answered_line (plans.counting 0 64) (given_of rows.thrice rows.warm_state) rows.warm_state 2
-    rows.warm_second 0 how.Warm 2 0 (Some 0) [] (given 1 0)
+warm_line2 = answered_line (plans.counting 0 64) (given_of rows.thrice rows.warm_state)
+    rows.warm_state 2 rows.warm_second 0 how.Warm 2 0 (Some 0) [] (given 1 0)
     (rested 17 1)
     (machines.counting_first 0 64) refl refl refl refl refl refl refl refl refl refl refl
 
-warm_line3 : IsLineOf (plans.counting 0 64) (given_of rows.thrice rows.warm_state) rows.warm_state 3 rows.warm_third
+warm_line3 : IsLineOf (plans.counting 0 64) (given_of rows.thrice rows.warm_state) rows.warm_state
+    3 rows.warm_third
 unfolding numbered service_of earlier answers_below answer_from
-warm_line3 = answered_line (plans.counting 0 64) (given_of rows.thrice rows.warm_state) rows.warm_state 3
-    rows.warm_third 0 how.Warm 3 0 (Some 0) [] (given 1 0)
+warm_line3 = answered_line (plans.counting 0 64) (given_of rows.thrice rows.warm_state)
+    rows.warm_state 3 rows.warm_third 0 how.Warm 3 0 (Some 0) [] (given 1 0)
     (rested 17 1)
     (machines.counting_first 0 64) refl refl refl refl refl refl refl refl refl refl refl
 
@@ -149,24 +155,27 @@ warm_fits = record {
 
 -- ---- where a context may answer two requests
 
-worn_line1 : IsLineOf (plans.counting 1 2) (given_of rows.thrice rows.worn_state) rows.worn_state 1 rows.hot_first
+worn_line1 : IsLineOf (plans.counting 1 2) (given_of rows.thrice rows.worn_state) rows.worn_state
+    1 rows.hot_first
 unfolding numbered service_of earlier answers_below answer_from
-worn_line1 = answered_line (plans.counting 1 2) (given_of rows.thrice rows.worn_state) rows.worn_state 1
-    rows.hot_first 0 how.Cold 1 0 (Some 0) [] (given 1 0)
+worn_line1 = answered_line (plans.counting 1 2) (given_of rows.thrice rows.worn_state)
+    rows.worn_state 1 rows.hot_first 0 how.Cold 1 0 (Some 0) [] (given 1 0)
     (rested 17 1)
     (machines.counting_first 1 2) refl refl refl refl refl refl refl refl refl refl refl
 
-worn_line2 : IsLineOf (plans.counting 1 2) (given_of rows.thrice rows.worn_state) rows.worn_state 2 rows.hot_second
+worn_line2 : IsLineOf (plans.counting 1 2) (given_of rows.thrice rows.worn_state) rows.worn_state
+    2 rows.hot_second
 unfolding numbered service_of earlier answers_below answer_from
-worn_line2 = answered_line (plans.counting 1 2) (given_of rows.thrice rows.worn_state) rows.worn_state 2
-    rows.hot_second 0 how.Hot 1 1 (Some 0) (given 1 0 ∷ []) (given 1 0)
+worn_line2 = answered_line (plans.counting 1 2) (given_of rows.thrice rows.worn_state)
+    rows.worn_state 2 rows.hot_second 0 how.Hot 1 1 (Some 0) (given 1 0 ∷ []) (given 1 0)
     (rested 15 2)
     (machines.counting_second 1 2) refl refl refl refl refl refl refl refl refl refl refl
 
-worn_line3 : IsLineOf (plans.counting 1 2) (given_of rows.thrice rows.worn_state) rows.worn_state 3 rows.worn_third
+worn_line3 : IsLineOf (plans.counting 1 2) (given_of rows.thrice rows.worn_state) rows.worn_state
+    3 rows.worn_third
 unfolding numbered service_of earlier answers_below answer_from
-worn_line3 = answered_line (plans.counting 1 2) (given_of rows.thrice rows.worn_state) rows.worn_state 3
-    rows.worn_third 0 how.Warm 2 0 (Some 0) [] (given 1 0)
+worn_line3 = answered_line (plans.counting 1 2) (given_of rows.thrice rows.worn_state)
+    rows.worn_state 3 rows.worn_third 0 how.Warm 2 0 (Some 0) [] (given 1 0)
     (rested 17 1)
     (machines.counting_first 1 2) refl refl refl refl refl refl refl refl refl refl refl
 
@@ -198,12 +207,12 @@ worn_fits = record {
 
 -- ---- through three layers
 
-three_line1 : IsLineOf plans.three (given_of rows.one_three rows.three_state) rows.three_state 1 rows.three_first
+three_line1 : IsLineOf plans.three (given_of rows.one_three rows.three_state) rows.three_state 1
+    rows.three_first
 unfolding numbered service_of earlier answers_below answer_from
-three_line1 = answered_line plans.three (given_of rows.one_three rows.three_state) rows.three_state 1
-    rows.three_first 0 how.Cold 1 0 (Some 2) [] (given 3 0)
-    (rested 17 6)
-    machines.three_first refl refl refl refl refl refl refl refl refl refl refl
+three_line1 = answered_line plans.three (given_of rows.one_three rows.three_state)
+    rows.three_state 1 rows.three_first 0 how.Cold 1 0 (Some 2) [] (given 3 0)
+    (rested 17 6) machines.three_first refl refl refl refl refl refl refl refl refl refl refl
 
 three_lines : AreLinesOf plans.three (given_of rows.one_three rows.three_state) rows.three_state
     rows.three_answers
@@ -233,28 +242,32 @@ three_fits = record {
 
 -- ---- a layer that isn't there
 
-spinning_line1 : IsLineOf plans.spinning (given_of rows.empty_twice rows.spinning_state) rows.spinning_state 1 rows.spinning_first
+spinning_line1 : IsLineOf plans.spinning (given_of rows.empty_twice rows.spinning_state)
+    rows.spinning_state 1 rows.spinning_first
 unfolding numbered service_of earlier answers_below answer_from
-spinning_line1 = answered_line plans.spinning (given_of rows.empty_twice rows.spinning_state) rows.spinning_state 1
-    rows.spinning_first 0 how.Cold 1 0 None [] machines.empty
+spinning_line1 = answered_line plans.spinning (given_of rows.empty_twice rows.spinning_state)
+    rows.spinning_state 1 rows.spinning_first 0 how.Cold 1 0 None [] machines.empty
     (record { ending = NoLayer 0 Budget; number = 0; packets = []; console = [] })
     machines.spinning_miss refl refl refl refl refl refl refl refl refl refl refl
 
-spinning_line2 : IsLineOf plans.spinning (given_of rows.empty_twice rows.spinning_state) rows.spinning_state 2 rows.spinning_second
+spinning_line2 : IsLineOf plans.spinning (given_of rows.empty_twice rows.spinning_state)
+    rows.spinning_state 2 rows.spinning_second
 unfolding numbered service_of earlier answers_below answer_from
-spinning_line2 = answered_line plans.spinning (given_of rows.empty_twice rows.spinning_state) rows.spinning_state 2
-    rows.spinning_second 0 how.Cold 2 0 None [] machines.empty
+spinning_line2 = answered_line plans.spinning (given_of rows.empty_twice rows.spinning_state)
+    rows.spinning_state 2 rows.spinning_second 0 how.Cold 2 0 None [] machines.empty
     (record { ending = NoLayer 0 Budget; number = 0; packets = []; console = [] })
     machines.spinning_miss refl refl refl refl refl refl refl refl refl refl refl
 
-spinning_lines : AreLinesOf plans.spinning (given_of rows.empty_twice rows.spinning_state) rows.spinning_state
+spinning_lines : AreLinesOf plans.spinning (given_of rows.empty_twice rows.spinning_state)
+    rows.spinning_state
     rows.spinning_answers
 spinning_lines = record { count = refl; lines = (spinning_line1, (spinning_line2, tt)) }
 
 spinning_builds : BuildsRightly plans.spinning rows.spinning_events
 spinning_builds = tt
 
-spinning_right : IsRight (copied plans.spinning) rows.empty_twice rows.spinning_answers rows.spinning_events
+spinning_right : IsRight (copied plans.spinning) rows.empty_twice rows.spinning_answers
+    rows.spinning_events
     rows.spinning_state
 spinning_right = record {
   journal = journals.spinning_journal;
@@ -279,22 +292,19 @@ two_line1 : IsLineOf plans.two (given_of rows.mixed rows.two_state) rows.two_sta
 unfolding numbered service_of earlier answers_below answer_from
 two_line1 = answered_line plans.two (given_of rows.mixed rows.two_state) rows.two_state 1
     rows.hot_first 0 how.Cold 1 0 (Some 0) [] (given 1 0)
-    (rested 17 1)
-    machines.two_first refl refl refl refl refl refl refl refl refl refl refl
+    (rested 17 1) machines.two_first refl refl refl refl refl refl refl refl refl refl refl
 
 two_line2 : IsLineOf plans.two (given_of rows.mixed rows.two_state) rows.two_state 2 rows.two_second
 unfolding numbered service_of earlier answers_below answer_from
 two_line2 = answered_line plans.two (given_of rows.mixed rows.two_state) rows.two_state 2
     rows.two_second 1 how.Cold 2 0 (Some 1) [] (given 5 0)
-    (rested 17 5)
-    machines.two_other refl refl refl refl refl refl refl refl refl refl refl
+    (rested 17 5) machines.two_other refl refl refl refl refl refl refl refl refl refl refl
 
 two_line3 : IsLineOf plans.two (given_of rows.mixed rows.two_state) rows.two_state 3 rows.two_third
 unfolding numbered service_of earlier answers_below answer_from
 two_line3 = answered_line plans.two (given_of rows.mixed rows.two_state) rows.two_state 3
     rows.two_third 0 how.Hot 1 1 (Some 0) (given 1 0 ∷ []) (given 2 0)
-    (rested 15 3)
-    machines.two_again refl refl refl refl refl refl refl refl refl refl refl
+    (rested 15 3) machines.two_again refl refl refl refl refl refl refl refl refl refl refl
 
 two_lines : AreLinesOf plans.two (given_of rows.mixed rows.two_state) rows.two_state
     rows.two_answers
@@ -324,21 +334,24 @@ two_fits = record {
 
 -- ---- a fault
 
-breaking_line1 : IsLineOf plans.breaking (given_of rows.once rows.breaking_state) rows.breaking_state 1 rows.breaking_first
+breaking_line1 : IsLineOf plans.breaking (given_of rows.once rows.breaking_state)
+    rows.breaking_state 1 rows.breaking_first
 unfolding numbered service_of earlier answers_below answer_from
-breaking_line1 = answered_line plans.breaking (given_of rows.once rows.breaking_state) rows.breaking_state 1
-    rows.breaking_first 0 how.Cold 1 0 (Some 0) [] (given 1 0)
+breaking_line1 = answered_line plans.breaking (given_of rows.once rows.breaking_state)
+    rows.breaking_state 1 rows.breaking_first 0 how.Cold 1 0 (Some 0) [] (given 1 0)
     (record { ending = Ran (Exception 3 65540 65540); number = 0; packets = []; console = [] })
     machines.breaking_first refl refl refl refl refl refl refl refl refl refl refl
 
-breaking_lines : AreLinesOf plans.breaking (given_of rows.once rows.breaking_state) rows.breaking_state
+breaking_lines : AreLinesOf plans.breaking (given_of rows.once rows.breaking_state)
+    rows.breaking_state
     rows.breaking_answers
 breaking_lines = record { count = refl; lines = (breaking_line1, tt) }
 
 breaking_builds : BuildsRightly plans.breaking rows.breaking_events
 breaking_builds = (machines.breaking0_built, tt)
 
-breaking_right : IsRight (copied plans.breaking) rows.once rows.breaking_answers rows.breaking_events
+breaking_right : IsRight (copied plans.breaking) rows.once rows.breaking_answers
+    rows.breaking_events
     rows.breaking_state
 breaking_right = record {
   journal = journals.breaking_journal;
@@ -359,7 +372,8 @@ breaking_fits = record {
 
 -- ---- no memory
 
-pub wanted_line1 : IsLineOf (plans.counting 1 64) (given_of rows.twice rows.wanted_state) rows.wanted_state 1 rows.wanted_first
+pub wanted_line1 : IsLineOf (plans.counting 1 64) (given_of rows.twice rows.wanted_state)
+    rows.wanted_state 1 rows.wanted_first
 unfolding numbered service_of earlier answers_below answer_from
 wanted_line1 = record {
   number_is = refl;
@@ -371,7 +385,8 @@ wanted_line1 = record {
   shows = refl;
 }
 
-wanted_line2 : IsLineOf (plans.counting 1 64) (given_of rows.twice rows.wanted_state) rows.wanted_state 2 rows.wanted_second
+wanted_line2 : IsLineOf (plans.counting 1 64) (given_of rows.twice rows.wanted_state)
+    rows.wanted_state 2 rows.wanted_second
 unfolding numbered service_of earlier answers_below answer_from
 wanted_line2 = record {
   number_is = refl;
@@ -383,14 +398,16 @@ wanted_line2 = record {
   shows = refl;
 }
 
-wanted_lines : AreLinesOf (plans.counting 1 64) (given_of rows.twice rows.wanted_state) rows.wanted_state
+wanted_lines : AreLinesOf (plans.counting 1 64) (given_of rows.twice rows.wanted_state)
+    rows.wanted_state
     rows.wanted_answers
 wanted_lines = record { count = refl; lines = (wanted_line1, (wanted_line2, tt)) }
 
 wanted_builds : BuildsRightly (plans.counting 1 64) rows.wanted_events
 wanted_builds = tt
 
-wanted_right : IsRight (copied (plans.counting 1 64)) rows.twice rows.wanted_answers rows.wanted_events
+wanted_right : IsRight (copied (plans.counting 1 64)) rows.twice rows.wanted_answers
+    rows.wanted_events
     rows.wanted_state
 wanted_right = record {
   journal = journals.wanted_journal;

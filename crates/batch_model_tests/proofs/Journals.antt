@@ -41,7 +41,8 @@ unfolding after_all top_layers legal.may_start legal.may_take legal.may_deploy l
     states.contains states.without states.stack_of states.layer_above states.highest_kept
 hot_reached = refl
 
-pub hot_journal : IsWholeJournal (copied (plans.counting 1 64)) rows.thrice rows.hot_events rows.hot_state
+pub hot_journal : IsWholeJournal (copied (plans.counting 1 64)) rows.thrice rows.hot_events
+    rows.hot_state
 hot_journal = record {
   reached = hot_reached;
   nothing_owed = refl;
@@ -76,7 +77,8 @@ unfolding after_all top_layers legal.may_start legal.may_take legal.may_deploy l
     states.contains states.without states.stack_of states.layer_above states.highest_kept
 warm_reached = refl
 
-pub warm_journal : IsWholeJournal (copied (plans.counting 0 64)) rows.thrice rows.warm_events rows.warm_state
+pub warm_journal : IsWholeJournal (copied (plans.counting 0 64)) rows.thrice rows.warm_events
+    rows.warm_state
 warm_journal = record {
   reached = warm_reached;
   nothing_owed = refl;
@@ -89,7 +91,8 @@ warm_journal = record {
   started = refl;
 }
 
-pub warm_parks : ParksRightly (plans.counting 0 64).numbers (ok_in rows.warm_answers) rows.warm_events
+pub warm_parks : ParksRightly (plans.counting 0 64).numbers (ok_in rows.warm_answers)
+    rows.warm_events
 unfolding is_parked_by states.numbered
 warm_parks = (refl, (refl, (refl, tt)))
 
@@ -111,7 +114,8 @@ unfolding after_all top_layers legal.may_start legal.may_take legal.may_deploy l
     states.contains states.without states.stack_of states.layer_above states.highest_kept
 worn_reached = refl
 
-pub worn_journal : IsWholeJournal (copied (plans.counting 1 2)) rows.thrice rows.worn_events rows.worn_state
+pub worn_journal : IsWholeJournal (copied (plans.counting 1 2)) rows.thrice rows.worn_events
+    rows.worn_state
 worn_journal = record {
   reached = worn_reached;
   nothing_owed = refl;
@@ -124,7 +128,8 @@ worn_journal = record {
   started = refl;
 }
 
-pub worn_parks : ParksRightly (plans.counting 1 2).numbers (ok_in rows.worn_answers) rows.worn_events
+pub worn_parks : ParksRightly (plans.counting 1 2).numbers (ok_in rows.worn_answers)
+    rows.worn_events
 unfolding is_parked_by states.numbered
 worn_parks = (refl, (refl, (refl, tt)))
 
@@ -146,7 +151,8 @@ unfolding after_all top_layers legal.may_start legal.may_take legal.may_deploy l
     states.contains states.without states.stack_of states.layer_above states.highest_kept
 three_reached = refl
 
-pub three_journal : IsWholeJournal (copied plans.three) rows.one_three rows.three_events rows.three_state
+pub three_journal : IsWholeJournal (copied plans.three) rows.one_three rows.three_events
+    rows.three_state
 three_journal = record {
   reached = three_reached;
   nothing_owed = refl;
@@ -163,13 +169,15 @@ pub three_parks : ParksRightly plans.three.numbers (ok_in rows.three_answers) ro
 unfolding is_parked_by states.numbered
 three_parks = (refl, tt)
 
-pub three_spelled : rows.three_text ≡ batch_text rows.three_answers rows.three_events rows.three_state
+pub three_spelled : rows.three_text ≡ batch_text rows.three_answers rows.three_events
+    rows.three_state
 unfolding totals digits
 three_spelled = refl
 
 -- ---- a layer that isn't there
 
-spinning_reached : Reaches (copied plans.spinning) rows.empty_twice rows.spinning_events rows.spinning_state
+spinning_reached : Reaches (copied plans.spinning) rows.empty_twice rows.spinning_events
+    rows.spinning_state
 unfolding after_all top_layers legal.may_start legal.may_take legal.may_deploy legal.may_build
     legal.may_drop legal.may_answer legal.may_end legal.may_want legal.after_start legal.after_take
     legal.after_deploy legal.after_built legal.after_keep legal.after_drop legal.after_answer
@@ -181,7 +189,8 @@ unfolding after_all top_layers legal.may_start legal.may_take legal.may_deploy l
     states.contains states.without states.stack_of states.layer_above states.highest_kept
 spinning_reached = refl
 
-pub spinning_journal : IsWholeJournal (copied plans.spinning) rows.empty_twice rows.spinning_events rows.spinning_state
+pub spinning_journal : IsWholeJournal (copied plans.spinning) rows.empty_twice
+    rows.spinning_events rows.spinning_state
 spinning_journal = record {
   reached = spinning_reached;
   nothing_owed = refl;
@@ -194,11 +203,13 @@ spinning_journal = record {
   started = refl;
 }
 
-pub spinning_parks : ParksRightly plans.spinning.numbers (ok_in rows.spinning_answers) rows.spinning_events
+pub spinning_parks : ParksRightly plans.spinning.numbers (ok_in rows.spinning_answers)
+    rows.spinning_events
 unfolding is_parked_by states.numbered
 spinning_parks = (refl, (refl, tt))
 
-pub spinning_spelled : rows.spinning_text ≡ batch_text rows.spinning_answers rows.spinning_events rows.spinning_state
+pub spinning_spelled : rows.spinning_text ≡ batch_text rows.spinning_answers rows.spinning_events
+    rows.spinning_state
 unfolding totals digits
 spinning_spelled = refl
 
@@ -239,7 +250,8 @@ two_spelled = refl
 
 -- ---- a fault
 
-breaking_reached : Reaches (copied plans.breaking) rows.once rows.breaking_events rows.breaking_state
+breaking_reached : Reaches (copied plans.breaking) rows.once rows.breaking_events
+    rows.breaking_state
 unfolding after_all top_layers legal.may_start legal.may_take legal.may_deploy legal.may_build
     legal.may_drop legal.may_answer legal.may_end legal.may_want legal.after_start legal.after_take
     legal.after_deploy legal.after_built legal.after_keep legal.after_drop legal.after_answer
@@ -251,7 +263,8 @@ unfolding after_all top_layers legal.may_start legal.may_take legal.may_deploy l
     states.contains states.without states.stack_of states.layer_above states.highest_kept
 breaking_reached = refl
 
-pub breaking_journal : IsWholeJournal (copied plans.breaking) rows.once rows.breaking_events rows.breaking_state
+pub breaking_journal : IsWholeJournal (copied plans.breaking) rows.once rows.breaking_events
+    rows.breaking_state
 breaking_journal = record {
   reached = breaking_reached;
   nothing_owed = refl;
@@ -264,17 +277,20 @@ breaking_journal = record {
   started = refl;
 }
 
-pub breaking_parks : ParksRightly plans.breaking.numbers (ok_in rows.breaking_answers) rows.breaking_events
+pub breaking_parks : ParksRightly plans.breaking.numbers (ok_in rows.breaking_answers)
+    rows.breaking_events
 unfolding is_parked_by states.numbered
 breaking_parks = (refl, tt)
 
-pub breaking_spelled : rows.breaking_text ≡ batch_text rows.breaking_answers rows.breaking_events rows.breaking_state
+pub breaking_spelled : rows.breaking_text ≡ batch_text rows.breaking_answers rows.breaking_events
+    rows.breaking_state
 unfolding totals digits
 breaking_spelled = refl
 
 -- ---- no memory
 
-pub wanted_reached : Reaches (copied (plans.counting 1 64)) rows.twice rows.wanted_events rows.wanted_state
+pub wanted_reached : Reaches (copied (plans.counting 1 64)) rows.twice rows.wanted_events
+    rows.wanted_state
 unfolding after_all top_layers legal.may_start legal.may_take legal.may_deploy legal.may_build
     legal.may_drop legal.may_answer legal.may_end legal.may_want legal.after_start legal.after_take
     legal.after_deploy legal.after_built legal.after_keep legal.after_drop legal.after_answer
@@ -286,7 +302,8 @@ unfolding after_all top_layers legal.may_start legal.may_take legal.may_deploy l
     states.contains states.without states.stack_of states.layer_above states.highest_kept
 wanted_reached = refl
 
-pub wanted_journal : IsWholeJournal (copied (plans.counting 1 64)) rows.twice rows.wanted_events rows.wanted_state
+pub wanted_journal : IsWholeJournal (copied (plans.counting 1 64)) rows.twice rows.wanted_events
+    rows.wanted_state
 wanted_journal = record {
   reached = wanted_reached;
   nothing_owed = refl;
@@ -299,17 +316,20 @@ wanted_journal = record {
   started = refl;
 }
 
-pub wanted_parks : ParksRightly (plans.counting 1 64).numbers (ok_in rows.wanted_answers) rows.wanted_events
+pub wanted_parks : ParksRightly (plans.counting 1 64).numbers (ok_in rows.wanted_answers)
+    rows.wanted_events
 unfolding is_parked_by states.numbered
 wanted_parks = tt
 
-pub wanted_spelled : rows.wanted_text ≡ batch_text rows.wanted_answers rows.wanted_events rows.wanted_state
+pub wanted_spelled : rows.wanted_text ≡ batch_text rows.wanted_answers rows.wanted_events
+    rows.wanted_state
 unfolding totals digits
 wanted_spelled = refl
 
 -- ---- journals that are legal, and not right
 
-ended_reached : Reaches (copied (plans.counting 1 64)) rows.thrice (misfits.ended_with (End 1 ∷ [])) misfits.ended_state
+ended_reached : Reaches (copied (plans.counting 1 64)) rows.thrice
+    (misfits.ended_with (End 1 ∷ [])) misfits.ended_state
 unfolding after_all top_layers legal.may_start legal.may_take legal.may_deploy legal.may_build
     legal.may_drop legal.may_answer legal.may_end legal.may_want legal.after_start legal.after_take
     legal.after_deploy legal.after_built legal.after_keep legal.after_drop legal.after_answer
@@ -321,7 +341,8 @@ unfolding after_all top_layers legal.may_start legal.may_take legal.may_deploy l
     states.contains states.without states.stack_of states.layer_above states.highest_kept
 ended_reached = refl
 
-pub ended_journal : IsWholeJournal (copied (plans.counting 1 64)) rows.thrice (misfits.ended_with (End 1 ∷ [])) misfits.ended_state
+pub ended_journal : IsWholeJournal (copied (plans.counting 1 64)) rows.thrice
+    (misfits.ended_with (End 1 ∷ [])) misfits.ended_state
 ended_journal = record {
   reached = ended_reached;
   nothing_owed = refl;
@@ -334,7 +355,8 @@ ended_journal = record {
   started = refl;
 }
 
-parked_reached : Reaches (copied plans.breaking) rows.once misfits.parked_events misfits.parked_state
+parked_reached : Reaches (copied plans.breaking) rows.once misfits.parked_events
+    misfits.parked_state
 unfolding after_all top_layers legal.may_start legal.may_take legal.may_deploy legal.may_build
     legal.may_drop legal.may_answer legal.may_end legal.may_want legal.after_start legal.after_take
     legal.after_deploy legal.after_built legal.after_keep legal.after_drop legal.after_answer
@@ -346,7 +368,8 @@ unfolding after_all top_layers legal.may_start legal.may_take legal.may_deploy l
     states.contains states.without states.stack_of states.layer_above states.highest_kept
 parked_reached = refl
 
-pub parked_journal : IsWholeJournal (copied plans.breaking) rows.once misfits.parked_events misfits.parked_state
+pub parked_journal : IsWholeJournal (copied plans.breaking) rows.once misfits.parked_events
+    misfits.parked_state
 parked_journal = record {
   reached = parked_reached;
   nothing_owed = refl;
@@ -359,7 +382,8 @@ parked_journal = record {
   started = refl;
 }
 
-fewer_reached : Reaches (copied (plans.counting 1 64)) rows.thrice (misfits.built_with 0) rows.hot_state
+fewer_reached : Reaches (copied (plans.counting 1 64)) rows.thrice (misfits.built_with 0)
+    rows.hot_state
 unfolding after_all top_layers legal.may_start legal.may_take legal.may_deploy legal.may_build
     legal.may_drop legal.may_answer legal.may_end legal.may_want legal.after_start legal.after_take
     legal.after_deploy legal.after_built legal.after_keep legal.after_drop legal.after_answer
@@ -371,7 +395,8 @@ unfolding after_all top_layers legal.may_start legal.may_take legal.may_deploy l
     states.contains states.without states.stack_of states.layer_above states.highest_kept
 fewer_reached = refl
 
-pub fewer_journal : IsWholeJournal (copied (plans.counting 1 64)) rows.thrice (misfits.built_with 0) rows.hot_state
+pub fewer_journal : IsWholeJournal (copied (plans.counting 1 64)) rows.thrice
+    (misfits.built_with 0) rows.hot_state
 fewer_journal = record {
   reached = fewer_reached;
   nothing_owed = refl;
@@ -384,7 +409,8 @@ fewer_journal = record {
   started = refl;
 }
 
-more_reached : Reaches (copied (plans.counting 1 64)) rows.thrice (misfits.built_with 2) rows.hot_state
+more_reached : Reaches (copied (plans.counting 1 64)) rows.thrice (misfits.built_with 2)
+    rows.hot_state
 unfolding after_all top_layers legal.may_start legal.may_take legal.may_deploy legal.may_build
     legal.may_drop legal.may_answer legal.may_end legal.may_want legal.after_start legal.after_take
     legal.after_deploy legal.after_built legal.after_keep legal.after_drop legal.after_answer
@@ -396,7 +422,8 @@ unfolding after_all top_layers legal.may_start legal.may_take legal.may_deploy l
     states.contains states.without states.stack_of states.layer_above states.highest_kept
 more_reached = refl
 
-pub more_journal : IsWholeJournal (copied (plans.counting 1 64)) rows.thrice (misfits.built_with 2) rows.hot_state
+pub more_journal : IsWholeJournal (copied (plans.counting 1 64)) rows.thrice
+    (misfits.built_with 2) rows.hot_state
 more_journal = record {
   reached = more_reached;
   nothing_owed = refl;

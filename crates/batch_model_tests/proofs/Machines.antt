@@ -303,7 +303,8 @@ spins = layer None 65540 []
 
 spinning_none : NoLayerShows plans.spinning 0 100 Budget
 unfolding run_from range_passes bytes_at least_failing low_bytes with_written top_layers
-spinning_none = no_layer_by plans.spinning 0 spins (loaded spin) Budget refl refl refl refl (λ e. cc)
+spinning_none = no_layer_by plans.spinning 0 spins (loaded spin) Budget refl refl refl refl
+    (λ e. cc)
 
 abbrev pub empty : Given
 empty = record { packet = []; clock = 0 }
@@ -333,9 +334,11 @@ abbrev breaking0 : Machine
 breaking0 = layer_after plans.breaking spins (loaded plans.breaks)
 
 abbrev breaking0_end : Machine
-breaking0_end = (end_of (loaded plans.breaks) (layer_end plans.breaking spins (loaded plans.breaks))).machine
+breaking0_end = (end_of (loaded plans.breaks)
+    (layer_end plans.breaking spins (loaded plans.breaks))).machine
 
-breaking0_step : (step : IsStep plans.breaking 0 (loaded plans.breaks) breaking0) × (step.reached ≡ breaking0_end)
+breaking0_step : (step : IsStep plans.breaking 0 (loaded plans.breaks) breaking0)
+    × (step.reached ≡ breaking0_end)
 unfolding run_from range_passes bytes_at least_failing low_bytes with_written top_layers
 breaking0_step = step_to plans.breaking 0 spins (loaded plans.breaks) refl refl refl
 
