@@ -1,0 +1,5 @@
+mod Above
+mod Layering
+mod Parting
+mod Requesting
+mod Starting

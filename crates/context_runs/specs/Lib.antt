@@ -1,0 +1,4 @@
+pub mod OfLayers
+pub mod OfRequests
+pub mod SoFar
+pub mod Standing
