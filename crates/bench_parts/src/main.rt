@@ -3,9 +3,13 @@
 //! `frames open COUNT` opens a table of so many frames, and `frames STEP COUNT` takes steps on one.
 //! `copies KIND PAGES ROUNDS` captures or deploys a space of so many pages again and again, and
 //! `idle FILE COUNT` holds so many contexts of a plan that have served nothing.
+//! `book SPREAD BOOKS` takes contexts that idle in a book and parks them again and again, and
+//! `lru SPREAD CACHES` does so with entries of the kit's cache.
 #![tactic(auto)]
 
+mod book;
 mod copies;
+mod entries;
 mod frames;
 mod idle;
 mod journal;
@@ -44,6 +48,14 @@ fn measured<R: Env + rt::Files + Alloc<A = Global>>(rt: &R) -> Result<String, Pr
         }
         [_, part, file, count] if part.as_str() == "idle" => {
             let told = idle::idle_part(alloc, &mut files, file.as_str(), count.as_str())?;
+            Ok(format!(in alloc; "{told}")?)
+        }
+        [_, part, spread, books] if part.as_str() == "book" => {
+            let told = book::book_part(alloc, spread.as_str(), books.as_str())?;
+            Ok(format!(in alloc; "{told}")?)
+        }
+        [_, part, spread, caches] if part.as_str() == "lru" => {
+            let told = entries::lru_part(alloc, spread.as_str(), caches.as_str())?;
             Ok(format!(in alloc; "{told}")?)
         }
         _ => Err(Problem::Words),

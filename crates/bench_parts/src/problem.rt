@@ -10,7 +10,7 @@ use thiserror::Error;
 #[derive(Debug, Drop, Error)]
 pub enum Problem {
     #[error("the words are: judge FILE, plan FILE, frames open COUNT, frames STEP COUNT, \
-         copies KIND PAGES ROUNDS, or idle FILE COUNT")]
+         copies KIND PAGES ROUNDS, idle FILE COUNT, book SPREAD BOOKS, or lru SPREAD CACHES")]
     Words,
     #[error("{0}")]
     File(FileFault),

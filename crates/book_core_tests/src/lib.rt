@@ -1,5 +1,5 @@
 //! A book that is played by calls that check before they call, with stand-ins for contexts and
-//! layers, and tests of the book through it.
+//! layers, so that tests of the book need no proof.
 #![tactic(auto)]
 
 mod answers;
@@ -22,6 +22,3 @@ pub use play::{Released, Served};
 pub use played::Played;
 pub use stored::Stored;
 pub use waiter::Waiter;
-
-#[cfg(test)]
-mod tests;

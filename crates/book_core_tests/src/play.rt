@@ -1,15 +1,17 @@
 //! The calls of a played book.
 
 ghost use Rattle.std.specs.Prelude.{◌≡◌, IfOk};
+ghost use Rattle.space_api.specs.Holding.{if_taken};
 
 use crate::played::Played;
 use crate::stored::Stored;
 use crate::waiter::Waiter;
-use book_core::{Closed, Started};
+use book_core::{Book, Closed, Started};
 use journal_model::Event;
 use machine_model::{Hart, Memory};
 use space_api::Store;
 use std::alloc::Global;
+use std::marker::Brand;
 
 /// How a request that is to be served is served.
 #[derive(Drop)]
@@ -114,6 +116,13 @@ impl<T: Store> Played<T> {
     /// All that the book holds.
     pub fn close(self) -> Closed<Waiter<T::Space>, Stored<T::Frozen>, T::Shelf> {
         self.book.close()
+    }
+
+    /// The book itself.
+    pub fn into_book(self) -> Book<Waiter<T::Space>, Stored<T::Frozen>, T::Shelf, Brand>
+        ensures { result.sizes.root ≡ if_taken T.Space.takes_frames 1 }
+    {
+        self.book
     }
 
     /// The journal so far.

@@ -1,1 +1,0 @@
-//! Tests of the book, which are still to come.
