@@ -1,4 +1,6 @@
-//! Journals that fork, and what a row of their table says.
+//! Journals that fork, what a row of their table says, and numbers that no line has.
 
+mod alone;
 mod forks;
+mod numbers;
 mod rows;

@@ -98,6 +98,60 @@ pub const ROWS: &str = "\
     1 BadShape|.segment 0 rx 64|\n\
     2 BadShape|.segment 0x10000 rx 64|.segment 0x1003f rx 1\n\
     1 BadShape|.segment 0x10002 rx 64\n\
+    2 BadNumber|.segment 0x10000 rx 64|addi x1, x0, 0xG\n\
+    2 BadNumber|.segment 0x10000 rx 64|addi x1, x0, 0x@\n\
+    2 BadNumber|.segment 0x10000 rx 64|addi x1, x0, 0x`\n\
+    2 BadNumber|.segment 0x10000 rx 64|addi x1, x0, 0x/\n\
+    2 BadNumber|.segment 0x10000 rx 64|addi x1, x0, 0x:\n\
+    2 BadNumber|.segment 0x10000 rx 64|addi x1, x0, 1:\n\
+    2 BadNumber|.segment 0x10000 rx 64|addi x1, x0, 1/\n\
+    2 BadShape|.segment 0x10000 rx 64|a[:\n\
+    2 BadShape|.segment 0x10000 rx 64|a@:\n\
+    2 BadShape|.segment 0x10000 rx 64|a{:\n\
+    2 BadShape|.segment 0x10000 rx 64|a`:\n\
+    2 BadShape|.segment 0x10000 rx 64|a/:\n\
+    2 BadShape|.segment 0x10000 rx 64|a::\n\
+    ok|.segment 0x10000 rx 64|azAZ09_:|_:|Z:\n\
+    1 BadShape|.segment 0x10000 wr 64\n\
+    1 BadShape|.segment 0x10000 xw 64\n\
+    1 BadShape|.segment 0x10000 xx 64\n\
+    1 BadShape|.segment 0x10000 RX 64\n\
+    2 Undefined|.segment 0x10000 rx 64|jal x0, a|.entry b\n\
+    3 Undefined|.segment 0x10000 rx 64|ecall|.entry b|jal x0, a\n\
+    3 BadShape|.segment 0x10000 rw 64|.segment 0x20000 rx 64|ecall\n\
+    2 BadShape|.segment 0x10000 rx 18446744073709551615|.zero 18446744073709551615\n\
+    2 OutOfRange|.segment 0x10000 rx 18446744073709551615|.zero 18446744073709551616\n\
+    3 OutOfRange|.segment 0x10000 rx 18446744073709551615|.zero 18446744073709551615|.byte 0\n\
+    ok|.segment 0x10000 rx 2000000|jal x0, a|.zero 1048570|a:|ecall\n\
+    2 OutOfRange|.segment 0x10000 rx 2000000|jal x0, a|.zero 1048572|a:|ecall\n\
+    ok|.segment 0x10000 rx 2000000|a:|.zero 1048576|jal x0, a\n\
+    4 OutOfRange|.segment 0x10000 rx 2000000|a:|.zero 1048578|jal x0, a\n\
+    ok|.segment 0x10000 rx 64|srli x1, x0, 63\n\
+    2 OutOfRange|.segment 0x10000 rx 64|srli x1, x0, 64\n\
+    ok|.segment 0x10000 rx 64|srai x1, x0, 63\n\
+    2 OutOfRange|.segment 0x10000 rx 64|srai x1, x0, 64\n\
+    ok|.segment 0x10000 rx 64|slliw x1, x0, 31\n\
+    2 OutOfRange|.segment 0x10000 rx 64|srliw x1, x0, 32\n\
+    ok|.segment 0x10000 rx 64|sraiw x1, x0, 31\n\
+    2 OutOfRange|.segment 0x10000 rx 64|sraiw x1, x0, 32\n\
+    ok|.segment 0x10000 rx 64|slti x1, x0, 2047|slti x1, x0, -2048\n\
+    2 OutOfRange|.segment 0x10000 rx 64|slti x1, x0, 2048\n\
+    2 OutOfRange|.segment 0x10000 rx 64|slti x1, x0, -2049\n\
+    ok|.segment 0x10000 rx 64|sltiu x1, x0, 2047|sltiu x1, x0, -2048\n\
+    2 OutOfRange|.segment 0x10000 rx 64|sltiu x1, x0, 2048\n\
+    2 OutOfRange|.segment 0x10000 rx 64|sltiu x1, x0, -2049\n\
+    ok|.segment 0x10000 rx 64|xori x1, x0, 2047|xori x1, x0, -2048\n\
+    2 OutOfRange|.segment 0x10000 rx 64|xori x1, x0, 2048\n\
+    2 OutOfRange|.segment 0x10000 rx 64|xori x1, x0, -2049\n\
+    ok|.segment 0x10000 rx 64|ori x1, x0, 2047|ori x1, x0, -2048\n\
+    2 OutOfRange|.segment 0x10000 rx 64|ori x1, x0, 2048\n\
+    2 OutOfRange|.segment 0x10000 rx 64|ori x1, x0, -2049\n\
+    ok|.segment 0x10000 rx 64|andi x1, x0, 2047|andi x1, x0, -2048\n\
+    2 OutOfRange|.segment 0x10000 rx 64|andi x1, x0, 2048\n\
+    2 OutOfRange|.segment 0x10000 rx 64|andi x1, x0, -2049\n\
+    ok|.segment 0x10000 rx 64|addiw x1, x0, 2047|addiw x1, x0, -2048\n\
+    2 OutOfRange|.segment 0x10000 rx 64|addiw x1, x0, 2048\n\
+    2 OutOfRange|.segment 0x10000 rx 64|addiw x1, x0, -2049\n\
     ok|.segment 0x10000 rx 64|addi x1, x0, 2047\n\
     ok|.segment 0x10000 rx 64|addi x1, x0, -2048\n\
     ok|.segment 0x10000 rx 64|addi x1, x0, 0x7fF\n\

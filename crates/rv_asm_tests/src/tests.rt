@@ -6,7 +6,7 @@ use std::alloc::{AllocError, Global};
 use std::test::Fail;
 
 /// The most bytes of a text here.
-const LONGEST: usize = 16_777_216;
+pub const LONGEST: usize = 16_777_216;
 
 /// What becomes of a text: `ok`, or the line and the kind of its fault.
 pub fn answer(alloc: Global, text: &str) -> Result<String, AllocError> {
@@ -22,7 +22,7 @@ pub fn answer(alloc: Global, text: &str) -> Result<String, AllocError> {
 
 #[test]
 fn there_are_as_many_rows(rt: HostRuntime) {
-    assert!(rt; ROWS.split_terminator('\n').count() == 152);
+    assert!(rt; ROWS.split_terminator('\n').count() == 206);
 }
 
 #[test]

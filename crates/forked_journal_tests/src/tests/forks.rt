@@ -1,7 +1,8 @@
 //! Journals that go on from one front in several ways, worked out by hand: of each fork one way is
 //! legal, and the others break.
 
-use super::rows::{Counts, Layers, Rooms, legal, sizes, verdict};
+use super::alone::ALONE;
+use super::rows::{Fork, legal, sizes, verdict};
 use run_journal::{Judged, Sizes};
 use std::process::Abort;
 use std::test::Fail;
@@ -22,16 +23,6 @@ const THREE_COPIED: &str = "start 1 0 0|deploy 1 image 1 0|built 1 0 1|keep 0|an
 const THREE_KEPT: &str = "start 1 0 0|deploy 1 image 1 1|built 1 0 1|keep 0|answer 1 1 0|end 1|\
                           start 2 1 0|deploy 2 image 2 1|built 2 1 1|keep 1|answer 2 2 0|end 2|\
                           start 3 2 0|deploy 3 image 3 1|built 3 2 1|keep 2|answer 3 3 0|end 3";
-
-/// Rooms, the layers of each function, and events; those that go on legally, with the totals then;
-/// and those that go on otherwise, each with the place of the first that may not stand.
-type Fork = (
-    Rooms,
-    Layers,
-    &'static str,
-    (&'static str, Counts),
-    &'static [(&'static str, usize)],
-);
 
 const FORKS: [Fork; 18] = [
     // No frame is free: the idle contexts go first, then the layers, each list from its end; and
@@ -302,14 +293,21 @@ const FORKS: [Fork; 18] = [
     ),
 ];
 
-#[test]
-fn forks_go_on(rt: HostRuntime) -> Result<(), Fail> {
-    for (rooms, layers, front, (on, counts), _) in FORKS {
+/// Each of these forks goes on to its totals.
+fn all_go_on<R: Abort + AllocGlobal>(rt: &R, forks: &[Fork]) -> Result<(), Fail> {
+    for fork in forks {
+        let (rooms, layers, front, (on, counts), _) = *fork;
         let sizes = sizes(rt.alloc(), rooms, layers)?;
         let found = verdict(rt.alloc(), &sizes, front, on)?;
         assert_eq!(rt; found, legal(counts), "{front} and {on}");
     }
     Ok(())
+}
+
+#[test]
+fn forks_go_on(rt: HostRuntime) -> Result<(), Fail> {
+    all_go_on(&rt, &FORKS)?;
+    all_go_on(&rt, &ALONE)
 }
 
 /// Each of these ways to go on breaks where it says.
@@ -327,11 +325,18 @@ fn break_there<R: Abort + AllocGlobal>(
     Ok(())
 }
 
-#[test]
-fn forks_break(rt: HostRuntime) -> Result<(), Fail> {
-    for (rooms, layers, front, _, wrong) in FORKS {
+/// Each other way of these forks breaks.
+fn all_break<R: Abort + AllocGlobal>(rt: &R, forks: &[Fork]) -> Result<(), Fail> {
+    for fork in forks {
+        let (rooms, layers, front, _, wrong) = *fork;
         let sizes = sizes(rt.alloc(), rooms, layers)?;
-        break_there(&rt, &sizes, front, wrong)?;
+        break_there(rt, &sizes, front, wrong)?;
     }
     Ok(())
+}
+
+#[test]
+fn forks_break(rt: HostRuntime) -> Result<(), Fail> {
+    all_break(&rt, &FORKS)?;
+    all_break(&rt, &ALONE)
 }

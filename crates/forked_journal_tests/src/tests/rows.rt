@@ -14,6 +14,16 @@ pub type Layers = &'static [&'static [u16]];
 /// How many requests, cold, warm, hot and none there are, and how many free frames.
 pub type Counts = (u32, u32, u32, u32, u32, u32);
 
+/// Rooms, the layers of each function, and events; those that go on legally, with the totals then;
+/// and those that go on otherwise, each with the place of the first that may not stand.
+pub type Fork = (
+    Rooms,
+    Layers,
+    &'static str,
+    (&'static str, Counts),
+    &'static [(&'static str, usize)],
+);
+
 /// Sizes of these rooms and layers, with clock 0 and 64 uses.
 pub fn sizes(alloc: Global, rooms: Rooms, functions: Layers) -> Result<Sizes, AllocError> {
     let mut stacks = Vec::new(alloc);
@@ -34,7 +44,7 @@ pub fn sizes(alloc: Global, rooms: Rooms, functions: Layers) -> Result<Sizes, Al
 }
 
 /// Adds the events of lines with a bar between.
-fn add_events(events: &mut Vec<Event>, text: &str) -> Result<(), Fail> {
+pub fn add_events(events: &mut Vec<Event>, text: &str) -> Result<(), Fail> {
     for line in text.split('|') {
         events.push(read_event(line.as_bytes()).ok_or("a line of the table")?)?;
     }
