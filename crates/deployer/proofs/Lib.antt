@@ -1,0 +1,5 @@
+pub mod Deployed
+pub mod Going
+pub mod Handed
+pub mod Hosted
+pub mod Stacked

@@ -1,0 +1,5 @@
+pub mod Closing
+pub mod Grounds
+pub mod Hosting
+pub mod Layering
+pub mod Steps
