@@ -1,7 +1,7 @@
 //! How a request ended.
 
-ghost use Rattle.std.specs.Prelude.{◌≡◌, is_ok};
-ghost use Rattle.reply_words.specs.Pushes.{Pushes};
+ghost use Rattle.std.specs.Prelude.{◌≡◌, ◌≤◌, is_ok, IsOk, vec_capacity};
+ghost use Rattle.reply_words.specs.Pushes.{Pushes, HasRoom};
 ghost use Rattle.reply_lines.specs.Line.{why_text, end_text};
 ghost use Rattle.reply_lines.specs.Reading as model;
 ghost use Rattle.journal_model.specs.declared.answer.End.TheVariants.{NoLayer};
@@ -12,8 +12,10 @@ use reply_words::{Piece, cut, is, push_pieces, read_decimal, read_hexadecimal};
 
 /// Pushes `fault:CAUSE:PC:TVAL`. `Memory` where there is too little of it; what was there stays.
 fn push_fault(out: &mut Vec<u8>, cause: u64, pc: u64, tval: u64) -> Result<(), Memory>
-    ensures { Pushes (is_ok result) (why_text (Why.Fault cause pc tval))
+    ensures pushed { Pushes (is_ok result) (why_text (Why.Fault cause pc tval))
         out.old.items out.new.items }
+    ensures room { HasRoom (why_text (Why.Fault cause pc tval)) out.old → IsOk result }
+    ensures capacity { vec_capacity out.old ≤ vec_capacity out.new }
 {
     push_pieces(
         out,
@@ -31,7 +33,9 @@ fn push_fault(out: &mut Vec<u8>, cause: u64, pc: u64, tval: u64) -> Result<(), M
 /// Pushes why a layer's run ended without one. `Memory` where there is too little of it; what was
 /// there stays.
 fn push_why(out: &mut Vec<u8>, why: Why) -> Result<(), Memory>
-    ensures { Pushes (is_ok result) (why_text why) out.old.items out.new.items }
+    ensures pushed { Pushes (is_ok result) (why_text why) out.old.items out.new.items }
+    ensures room { HasRoom (why_text why) out.old → IsOk result }
+    ensures capacity { vec_capacity out.old ≤ vec_capacity out.new }
 {
     match why {
         Why::Rest => push_pieces(out, &[Piece::Text("rest")]),
@@ -44,7 +48,9 @@ fn push_why(out: &mut Vec<u8>, why: Why) -> Result<(), Memory>
 /// Pushes that layer `k` couldn't be made, and why. `Memory` where there is too little of it; what
 /// was there stays.
 fn push_no_layer(out: &mut Vec<u8>, k: u16, why: Why) -> Result<(), Memory>
-    ensures { Pushes (is_ok result) (end_text (NoLayer k why)) out.old.items out.new.items }
+    ensures pushed { Pushes (is_ok result) (end_text (NoLayer k why)) out.old.items out.new.items }
+    ensures room { HasRoom (end_text (NoLayer k why)) out.old → IsOk result }
+    ensures capacity { vec_capacity out.old ≤ vec_capacity out.new }
 {
     push_pieces(
         out,
@@ -59,7 +65,9 @@ fn push_no_layer(out: &mut Vec<u8>, k: u16, why: Why) -> Result<(), Memory>
 
 /// Pushes how a request ended. `Memory` where there is too little of it; what was there stays.
 pub fn push_end(out: &mut Vec<u8>, end: End) -> Result<(), Memory>
-    ensures { Pushes (is_ok result) (end_text end) out.old.items out.new.items }
+    ensures pushed { Pushes (is_ok result) (end_text end) out.old.items out.new.items }
+    ensures room { HasRoom (end_text end) out.old → IsOk result }
+    ensures capacity { vec_capacity out.old ≤ vec_capacity out.new }
 {
     match end {
         End::Ok => push_pieces(out, &[Piece::Text("ok")]),

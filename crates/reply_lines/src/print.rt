@@ -1,7 +1,7 @@
 //! The lines of replies and of totals.
 
-ghost use Rattle.std.specs.Prelude.{◌≡◌, ◌++◌, is_ok, OnOk, OnErr};
-ghost use Rattle.reply_words.specs.Pushes.{Pushes};
+ghost use Rattle.std.specs.Prelude.{◌≡◌, ◌≤◌, ◌++◌, is_ok, IsOk, OnOk, OnErr, vec_capacity};
+ghost use Rattle.reply_words.specs.Pushes.{Pushes, HasRoom};
 ghost use Rattle.reply_lines.specs.Line as model;
 
 use crate::ending::push_end;
@@ -14,7 +14,9 @@ use std::alloc::Global;
 /// Pushes `END STEPS PACKETS CONSOLE`. `Memory` where there is too little of it; what was there
 /// stays.
 fn push_run(out: &mut Vec<u8>, answer: &Answer) -> Result<(), Memory>
-    ensures { Pushes (is_ok result) (model.run_text answer.now) out.old.items out.new.items }
+    ensures pushed { Pushes (is_ok result) (model.run_text answer.now) out.old.items out.new.items }
+    ensures room { HasRoom (model.run_text answer.now) out.old → IsOk result }
+    ensures capacity { vec_capacity out.old ≤ vec_capacity out.new }
 {
     push_end(out, answer.end)?;
     push_pieces(
@@ -34,7 +36,10 @@ fn push_run(out: &mut Vec<u8>, answer: &Answer) -> Result<(), Memory>
 
 /// Pushes the line of a reply. `Memory` where there is too little of it; what was there stays.
 fn push_reply(out: &mut Vec<u8>, answer: &Answer) -> Result<(), Memory>
-    ensures { Pushes (is_ok result) (model.reply_line answer.now) out.old.items out.new.items }
+    ensures pushed { Pushes (is_ok result) (model.reply_line answer.now)
+        out.old.items out.new.items }
+    ensures room { HasRoom (model.reply_line answer.now) out.old → IsOk result }
+    ensures capacity { vec_capacity out.old ≤ vec_capacity out.new }
 {
     push_service(out, answer)?;
     push_run(out, answer)
@@ -42,7 +47,10 @@ fn push_reply(out: &mut Vec<u8>, answer: &Answer) -> Result<(), Memory>
 
 /// Pushes the line of totals. `Memory` where there is too little of it; what was there stays.
 fn push_totals(out: &mut Vec<u8>, totals: &Totals) -> Result<(), Memory>
-    ensures { Pushes (is_ok result) (model.totals_line totals.now) out.old.items out.new.items }
+    ensures pushed { Pushes (is_ok result) (model.totals_line totals.now)
+        out.old.items out.new.items }
+    ensures room { HasRoom (model.totals_line totals.now) out.old → IsOk result }
+    ensures capacity { vec_capacity out.old ≤ vec_capacity out.new }
 {
     push_pieces(
         out,
@@ -68,6 +76,8 @@ fn push_totals(out: &mut Vec<u8>, totals: &Totals) -> Result<(), Memory>
 pub fn print_reply(_alloc: Global, answer: &Answer, out: &mut Vec<u8>) -> Result<(), Memory>
     ensures ok { OnOk result (out.new.items ≡ out.old.items ++ model.reply_line answer.now) }
     ensures err { OnErr result (out.new.items ≡ out.old.items) }
+    ensures room { HasRoom (model.reply_line answer.now) out.old → IsOk result }
+    ensures capacity { vec_capacity out.old ≤ vec_capacity out.new }
 {
     let before = out.len();
     match push_reply(out, answer) {
@@ -84,6 +94,8 @@ pub fn print_reply(_alloc: Global, answer: &Answer, out: &mut Vec<u8>) -> Result
 pub fn print_totals(_alloc: Global, totals: &Totals, out: &mut Vec<u8>) -> Result<(), Memory>
     ensures ok { OnOk result (out.new.items ≡ out.old.items ++ model.totals_line totals.now) }
     ensures err { OnErr result (out.new.items ≡ out.old.items) }
+    ensures room { HasRoom (model.totals_line totals.now) out.old → IsOk result }
+    ensures capacity { vec_capacity out.old ≤ vec_capacity out.new }
 {
     let before = out.len();
     match push_totals(out, totals) {

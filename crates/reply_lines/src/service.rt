@@ -1,7 +1,8 @@
 //! Where a request's context came from, and which it was.
 
-ghost use Rattle.std.specs.Prelude.{◌≡◌, is_ok, MatchOption, None, Some};
-ghost use Rattle.reply_words.specs.Pushes.{Pushes};
+ghost use Rattle.std.specs.Prelude.{◌≡◌, ◌≤◌, is_ok, IsOk, vec_capacity};
+ghost use Rattle.std.specs.Prelude.{MatchOption, None, Some};
+ghost use Rattle.reply_words.specs.Pushes.{Pushes, HasRoom};
 ghost use Rattle.reply_lines.specs.Line.{how_text, service_text};
 ghost use Rattle.reply_lines.specs.Reading as model;
 
@@ -24,7 +25,9 @@ fn how_word(how: How) -> &'static str
 /// Pushes `I HOW cN uN` and a space. `Memory` where there is too little of it; what was there
 /// stays.
 pub fn push_service(out: &mut Vec<u8>, answer: &Answer) -> Result<(), Memory>
-    ensures { Pushes (is_ok result) (service_text answer.now) out.old.items out.new.items }
+    ensures pushed { Pushes (is_ok result) (service_text answer.now) out.old.items out.new.items }
+    ensures room { HasRoom (service_text answer.now) out.old → IsOk result }
+    ensures capacity { vec_capacity out.old ≤ vec_capacity out.new }
 {
     push_pieces(
         out,

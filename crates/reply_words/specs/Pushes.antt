@@ -1,5 +1,7 @@
 -- What is pushed behind bytes.
-use Rattle.std.specs.Prelude.{◌≡◌, ℕ, Bool, true, List, [], ◌∷◌, ◌++◌, length, take}
+use Rattle.std.specs.Prelude.{◌≡◌, ◌+◌, ◌≤◌, ℕ, Bool, true, List, [], ◌∷◌, ◌++◌, length, take}
+use Rattle.std.specs.Prelude.{vec_items, vec_capacity}
+use Rattle.std.specs.Global.{Vec}
 use Rattle.std.specs.Fmt.{decimal}
 use Rattle.reply_words.specs.Spelling.{hexadecimal, bytes_text}
 use Rattle.reply_words.specs.declared.piece.Piece.{Piece}
@@ -9,6 +11,10 @@ use Rattle.reply_words.specs.declared.piece.Piece.TheVariants.{Text, Decimal, He
 pub record Pushes (all : Bool) (text old new : List ℕ) : Type 0 where
   pub pushed : all ≡ true → new ≡ old ++ text
   pub kept : take (length old) new ≡ old
+
+-- the text fits behind the bytes without their growing
+abbrev pub HasRoom : (text : List ℕ) → Vec ℕ → Type 0
+HasRoom text out = length (vec_items out) + length text ≤ vec_capacity out
 
 abbrev pub piece_text : Piece → List ℕ
 piece_text (Text text) = text.now

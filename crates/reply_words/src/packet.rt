@@ -1,10 +1,10 @@
 //! Bytes and packets.
 
-ghost use Rattle.std.specs.Prelude.{◌≡◌, [], ◌∷◌, ◌++◌, MatchOption, IfOk, OnOk, is_ok};
-ghost use Rattle.std.specs.Prelude.{None, Some};
+ghost use Rattle.std.specs.Prelude.{◌≡◌, ◌≤◌, [], ◌∷◌, ◌++◌, MatchOption, IfOk, OnOk, is_ok, IsOk};
+ghost use Rattle.std.specs.Prelude.{None, Some, vec_capacity};
 ghost use Rattle.std.specs.List.{flat_map};
 ghost use Rattle.reply_words.specs.Spelling.{packets_text, packet_behind_slash};
-ghost use Rattle.reply_words.specs.Pushes.{Pushes};
+ghost use Rattle.reply_words.specs.Pushes.{Pushes, HasRoom};
 ghost use Rattle.reply_words.specs.Reading as model;
 
 use crate::number::low_digit;
@@ -17,7 +17,9 @@ use std::alloc::Global;
 /// Pushes packets behind bytes: each as its bytes, with slashes between, or `none`. `Memory` where
 /// there is too little of it; what was there stays.
 pub fn push_packets(out: &mut Vec<u8>, packets: &[Packet]) -> Result<(), Memory>
-    ensures { Pushes (is_ok result) (packets_text packets.now) out.old.items out.new.items }
+    ensures pushed { Pushes (is_ok result) (packets_text packets.now) out.old.items out.new.items }
+    ensures room { HasRoom (packets_text packets.now) out.old → IsOk result }
+    ensures capacity { vec_capacity out.old ≤ vec_capacity out.new }
 {
     match packets {
         [] => push_pieces(out, &[Piece::Text("none")]),
@@ -31,8 +33,10 @@ pub fn push_packets(out: &mut Vec<u8>, packets: &[Packet]) -> Result<(), Memory>
 /// Pushes each packet behind a slash. `Memory` where there is too little of it; what was there
 /// stays.
 fn push_others(out: &mut Vec<u8>, packets: &[Packet]) -> Result<(), Memory>
-    ensures { Pushes (is_ok result) (flat_map packet_behind_slash packets.now)
+    ensures pushed { Pushes (is_ok result) (flat_map packet_behind_slash packets.now)
         out.old.items out.new.items }
+    ensures room { HasRoom (flat_map packet_behind_slash packets.now) out.old → IsOk result }
+    ensures capacity { vec_capacity out.old ≤ vec_capacity out.new }
 {
     'packets: for packet in packets {
         push_pieces(out, &[Piece::Text("/"), Piece::Bytes(packet.bytes())])?;

@@ -1,10 +1,10 @@
 //! Pieces of a line, pushed behind bytes.
 
-ghost use Rattle.std.specs.Prelude.{◌≡◌, ◌<◌, false, is_ok};
+ghost use Rattle.std.specs.Prelude.{◌≡◌, ◌≤◌, ◌<◌, false, is_ok, IsOk, vec_capacity};
 ghost use Rattle.std.specs.Fmt.{decimal, digit_glyph};
 ghost use Rattle.std.specs.List.{flat_map};
 ghost use Rattle.reply_words.specs.Spelling.{hexadecimal, byte_text, bytes_text};
-ghost use Rattle.reply_words.specs.Pushes.{Pushes, piece_text, pieces_text};
+ghost use Rattle.reply_words.specs.Pushes.{Pushes, HasRoom, piece_text, pieces_text};
 
 use itoa::Buffer;
 use machine_model::Memory;
@@ -24,7 +24,9 @@ pub enum Piece<'a> {
 
 /// Pushes bytes behind others. `Memory` where there is too little of it; the others stay.
 fn push_slice(out: &mut Vec<u8>, bytes: &[u8]) -> Result<(), Memory>
-    ensures { Pushes (is_ok result) bytes.now out.old.items out.new.items }
+    ensures pushed { Pushes (is_ok result) bytes.now out.old.items out.new.items }
+    ensures room { HasRoom bytes.now out.old → IsOk result }
+    ensures capacity { vec_capacity out.old ≤ vec_capacity out.new }
 {
     out.extend_from_slice(bytes)?;
     Ok(())
@@ -40,7 +42,9 @@ fn digit(n: u8) -> u8
 
 /// Pushes a number in hexadecimal. `Memory` where there is too little of it; what was there stays.
 fn push_hexadecimal(out: &mut Vec<u8>, n: u64) -> Result<(), Memory>
-    ensures { Pushes (is_ok result) (hexadecimal n) out.old.items out.new.items }
+    ensures pushed { Pushes (is_ok result) (hexadecimal n) out.old.items out.new.items }
+    ensures room { HasRoom (hexadecimal n) out.old → IsOk result }
+    ensures capacity { vec_capacity out.old ≤ vec_capacity out.new }
 {
     let last = [digit((n % 16) as u8)];
     if n < 16 {
@@ -52,7 +56,10 @@ fn push_hexadecimal(out: &mut Vec<u8>, n: u64) -> Result<(), Memory>
 
 /// Pushes two digits a byte. `Memory` where there is too little of it; what was there stays.
 fn push_digits(out: &mut Vec<u8>, bytes: &[u8]) -> Result<(), Memory>
-    ensures { Pushes (is_ok result) (flat_map byte_text bytes.now) out.old.items out.new.items }
+    ensures pushed { Pushes (is_ok result) (flat_map byte_text bytes.now)
+        out.old.items out.new.items }
+    ensures room { HasRoom (flat_map byte_text bytes.now) out.old → IsOk result }
+    ensures capacity { vec_capacity out.old ≤ vec_capacity out.new }
 {
     'bytes: for byte in bytes {
         push_slice(out, &[digit(*byte / 16), digit(*byte % 16)])?;
@@ -63,7 +70,9 @@ fn push_digits(out: &mut Vec<u8>, bytes: &[u8]) -> Result<(), Memory>
 /// Pushes bytes in hexadecimal, or a dash where there are none. `Memory` where there is too little
 /// of it; what was there stays.
 fn push_bytes(out: &mut Vec<u8>, bytes: &[u8]) -> Result<(), Memory>
-    ensures { Pushes (is_ok result) (bytes_text bytes.now) out.old.items out.new.items }
+    ensures pushed { Pushes (is_ok result) (bytes_text bytes.now) out.old.items out.new.items }
+    ensures room { HasRoom (bytes_text bytes.now) out.old → IsOk result }
+    ensures capacity { vec_capacity out.old ≤ vec_capacity out.new }
 {
     if bytes.is_empty() {
         return push_slice(out, b"-");
@@ -73,7 +82,9 @@ fn push_bytes(out: &mut Vec<u8>, bytes: &[u8]) -> Result<(), Memory>
 
 /// Pushes a number in decimal. `Memory` where there is too little of it; what was there stays.
 fn push_decimal(out: &mut Vec<u8>, n: u64) -> Result<(), Memory>
-    ensures { Pushes (is_ok result) (decimal n) out.old.items out.new.items }
+    ensures pushed { Pushes (is_ok result) (decimal n) out.old.items out.new.items }
+    ensures room { HasRoom (decimal n) out.old → IsOk result }
+    ensures capacity { vec_capacity out.old ≤ vec_capacity out.new }
 {
     let mut digits = Buffer::new();
     push_slice(out, digits.format(n).as_bytes())
@@ -81,7 +92,9 @@ fn push_decimal(out: &mut Vec<u8>, n: u64) -> Result<(), Memory>
 
 /// Pushes a piece. `Memory` where there is too little of it; what was there stays.
 fn push_piece(out: &mut Vec<u8>, piece: &Piece<'_>) -> Result<(), Memory>
-    ensures { Pushes (is_ok result) (piece_text piece.now) out.old.items out.new.items }
+    ensures pushed { Pushes (is_ok result) (piece_text piece.now) out.old.items out.new.items }
+    ensures room { HasRoom (piece_text piece.now) out.old → IsOk result }
+    ensures capacity { vec_capacity out.old ≤ vec_capacity out.new }
 {
     match *piece {
         Piece::Text(text) => push_slice(out, text.as_bytes()),
@@ -94,7 +107,9 @@ fn push_piece(out: &mut Vec<u8>, piece: &Piece<'_>) -> Result<(), Memory>
 /// Pushes pieces behind bytes, in their order. `Memory` where there is too little of it: some of
 /// the text may then stand there, behind the bytes, which stay as they were.
 pub fn push_pieces(out: &mut Vec<u8>, pieces: &[Piece<'_>]) -> Result<(), Memory>
-    ensures { Pushes (is_ok result) (pieces_text pieces.now) out.old.items out.new.items }
+    ensures pushed { Pushes (is_ok result) (pieces_text pieces.now) out.old.items out.new.items }
+    ensures room { HasRoom (pieces_text pieces.now) out.old → IsOk result }
+    ensures capacity { vec_capacity out.old ≤ vec_capacity out.new }
 {
     match pieces {
         [first, rest @ ..] => {

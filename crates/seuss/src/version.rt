@@ -4,4 +4,4 @@
 pub const VERSION: &str = "0.1.0";
 
 /// What `scripts/source_digest.sh` prints of the sources. `scripts/version.sh` writes it.
-pub const SOURCES: &str = "7bfba4acafc35b4a7524ce01859f571060cc83d5fd758f457c10658db8b47779";
+pub const SOURCES: &str = "e5823e652b80f110231a088dd643cb8b09d3f2ea54fb99db97ce954a0ad5404d";

@@ -1,4 +1,4 @@
-//! Packets and a console of the most bytes, and of one more.
+//! Packets and a console of the most bytes, and of one more; lines in room that just suffices.
 
 use reply_lines::{print_reply, read_reply};
 use std::alloc::Global;
@@ -53,5 +53,17 @@ fn many_packets_are_read_back(rt: HostRuntime) -> Result<(), Fail> {
     }
     line.extend_from_slice(b" -")?;
     assert!(rt; is_read_back(alloc, &line)?);
+    Ok(())
+}
+
+#[test]
+fn a_line_fills_its_room(rt: HostRuntime) -> Result<(), Fail> {
+    let alloc = rt.alloc();
+    let line = "1 cold c1 u0 fault:15:10014:abcdef0 17 0aff/- 5a".as_bytes();
+    let answer = read_reply(alloc, line)?.ok_or("a reply's line")?;
+    let mut out = Vec::with_capacity(alloc, line.len())?;
+    print_reply(alloc, &answer, &mut out)?;
+    assert_eq!(rt; out.as_slice(), line);
+    assert_eq!(rt; out.capacity(), line.len());
     Ok(())
 }

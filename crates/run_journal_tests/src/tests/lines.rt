@@ -44,6 +44,23 @@ fn lines_are_read_back(rt: HostRuntime) -> Result<(), Fail> {
 }
 
 #[test]
+fn a_line_fills_its_room(rt: HostRuntime) -> Result<(), Fail> {
+    let alloc = rt.alloc();
+    for line in [
+        "start 4294967295 65535 18446744073709551615",
+        "deploy 1 image 0 0",
+        "keep 0",
+    ] {
+        let event = read_event(line.as_bytes()).ok_or("an event line")?;
+        let mut out = Vec::with_capacity(alloc, line.len())?;
+        print_event(alloc, &event, &mut out)?;
+        assert_eq!(rt; out.as_slice(), line.as_bytes());
+        assert_eq!(rt; out.capacity(), line.len());
+    }
+    Ok(())
+}
+
+#[test]
 fn other_lines_are_none(rt: HostRuntime) -> Result<(), Fail> {
     for line in [
         "",
