@@ -11,11 +11,12 @@ use Rattle.book_model.specs.Shared.{Shared}
 use Rattle.book_model.specs.Steps.{Deploys, DeploysNone, image_of, below_of, start_of}
 use Rattle.book_model.specs.Steps.{with_below}
 use Rattle.book_model.proofs.Entries.{all_lookup}
-use Rattle.context_uc.specs.Views.{ContextView, LayerView, IsModel, kept_of}
+use Rattle.context_runs.specs.OfLayers.{IsOnStack}
+use Rattle.context_runs.specs.Standing.{StandsFor}
+use Rattle.context_uc.specs.Views.{ContextView, LayerView, kept_of}
 use Rattle.context_uc.specs.Views.{silent}
 use Rattle.deployer.specs.Grounds as grounds
 use Rattle.deployer.specs.Hosting.{Telling, IsFresh, IsDrawn}
-use Rattle.deployer.specs.Steps.{WentBy}
 use Rattle.deployer.proofs.Going.{went_nowhere, went_one}
 use Rattle.deployer.proofs.Stacked.{same_start, highest_in, there}
 use Rattle.journal_model.specs.Extents.{Extents}
@@ -23,10 +24,8 @@ use Rattle.journal_model.specs.State.{State, stack_of, highest_kept, contains}
 use Rattle.journal_model.specs.Legal as legal
 use Rattle.journal_model.specs.Legal.{after, request_function}
 use Rattle.journal_model.specs.declared.event.Event.TheVariants.{Deploy}
-use Rattle.layer_laws.proofs.Answering.{new_context}
 use Rattle.layer_model.specs.Layers.{IsPlace}
 use Rattle.layer_model.specs.Replies.{IsFunction}
-use Rattle.machine_model.specs.Machine.{Machine}
 use Rattle.machine_model.specs.declared.hart.Hart.{Hart}
 use Rattle.plan_model.specs.Outline.{Outline, IsPlan}
 use Rattle.plan_model.specs.Stacks.{stack}
@@ -37,21 +36,11 @@ use Rattle.journal_model.proofs.Recents.{same}
 use Rattle.journal_model.specs.declared.state.Duty.TheVariants.{Serves}
 use Rattle.service_laws.specs.Serving.{IsServing}
 use Rattle.service_laws.proofs.Giving.{deployed_serves, deployed_function, deployed_served}
+use Rattle.service_model.specs.Going.{WentBy}
 use Rattle.space_api.specs.Flat.{Flat, machine_of}
 use Rattle.space_api.specs.Holding.{Pin, Stocked, Holding}
 use Rattle.space_api.specs.Told.{KeptLayer}
 use Rattle.space_api.specs.Stores.{Spaced, frozen, frozen_of, spaced_of}
-
--- a machine that stands at a place is a context there that has served nothing
-model_at : (plan : Outline) (f : ℕ) (function : PlanFunction) (top : PlanLayer)
-    (place : Option ℕ) (m : Machine) → IsFunction plan f function top →
-    IsPlace plan top.start place m → IsModel plan f place [] m
-model_at plan f function top place m is stands = record {
-  function = function;
-  layer = top;
-  function_is = is;
-  context_is = (new_context plan top.start place m).1 stands;
-}
 
 -- a layer of the function's stack has the start of the function's layer
 stack_start : (plan : Outline) (f : ℕ) (function : PlanFunction) (top : PlanLayer) (k start : ℕ) →
@@ -83,22 +72,26 @@ module _ {S Z : Type 0} (plan : Outline) (telling : Telling S) (flat : Z → Fla
   abbrev pub told : LayerView Z → KeptLayer
   told = kept_of (λ z. frozen_of (flat z) (image z))
 
-  -- what is deployed from a layer of the plan is a context's there that has served nothing
-  below_model : (f : ℕ) (function : PlanFunction) (top : PlanLayer) (l : LayerView Z)
+  -- what is deployed from a layer of the plan stands there, over the image of the function's layer
+  below_stands : (f : ℕ) (function : PlanFunction) (top : PlanLayer) (l : LayerView Z)
       (d : Deployed S) → IsFunction plan f function top → grounds.IsLayerOf plan flat l →
       l.number ≡ d.from → l.start ≡ top.start → d.hart ≡ l.hart →
       telling.flat d.space ≡ frozen (flat l.frozen) →
-      IsModel plan f d.from [] (machine_of d.hart (telling.flat d.space) silent)
-  below_model f function top l d at is n s h e =
-      model_at plan f function top d.from _ at it where
-        it : IsPlace plan top.start d.from (machine_of d.hart (telling.flat d.space) silent)
-        it = subst (λ g. IsPlace plan top.start d.from (machine_of d.hart g silent)) (sym e)
-            (subst (λ x. IsPlace plan top.start d.from
-            (machine_of x (frozen (flat l.frozen)) silent))
-            (sym h) (subst (λ o. IsPlace plan top.start o (machine_of l.hart
-            (frozen (flat l.frozen)) silent)) n (subst (λ a. IsPlace plan a l.number
-            (machine_of l.hart (frozen (flat l.frozen)) silent)) s (subst (λ p. IsPlace p l.start
-            l.number (machine_of l.hart (frozen (flat l.frozen)) silent)) is.plan_is is.kept))))
+      StandsFor plan f d.from (machine_of d.hart (telling.flat d.space) silent)
+  below_stands f function top l d at is n s h e = record {
+    function = function;
+    layer = top;
+    function_is = at;
+    place_is = it;
+  } where
+    it : IsPlace plan top.start d.from (machine_of d.hart (telling.flat d.space) silent)
+    it = subst (λ g. IsPlace plan top.start d.from (machine_of d.hart g silent)) (sym e)
+        (subst (λ x. IsPlace plan top.start d.from
+        (machine_of x (frozen (flat l.frozen)) silent))
+        (sym h) (subst (λ o. IsPlace plan top.start o (machine_of l.hart
+        (frozen (flat l.frozen)) silent)) n (subst (λ a. IsPlace plan a l.number
+        (machine_of l.hart (frozen (flat l.frozen)) silent)) s (subst (λ p. IsPlace p l.start
+        l.number (machine_of l.hart (frozen (flat l.frozen)) silent)) is.plan_is is.kept))))
 
   -- what a kept layer of the book, or an image, is to a deploy
   pub record IsHeldBelow (pin : Z → Option Pin) (is_layer : LayerView Z → Type 0)
@@ -114,7 +107,7 @@ module _ {S Z : Type 0} (plan : Outline) (telling : Telling S) (flat : Z → Fla
     of_plan : grounds.IsLayerOf plan flat l
     number : l.number ≡ from
     start : l.start ≡ top.start
-    on_way : grounds.IsOnWay plan f from
+    on_way : IsOnStack plan f from
 
   module _ {C H : Type 0} (pin : Z → Option Pin) (is_layer : LayerView Z → Type 0) (f i : ℕ)
       (function : PlanFunction) (top : PlanLayer) (is : IsPlan plan)
@@ -131,9 +124,9 @@ module _ {S Z : Type 0} (plan : Outline) (telling : Telling S) (flat : Z → Fla
           start = h.1.start_is ∙ start_there plan b.sizes f function top sized at b.state i r;
           on_way = record {
             function = function;
-            layer = top;
+            top = top;
             function_is = at;
-            place_is = tt;
+            stands = tt;
           };
         }
     below_is (Some k) l b sized r held e high =
@@ -149,9 +142,9 @@ module _ {S Z : Type 0} (plan : Outline) (telling : Telling S) (flat : Z → Fla
           start = stack_start plan f function top k l.start is at has inside;
           on_way = record {
             function = function;
-            layer = top;
+            top = top;
             function_is = at;
-            place_is = inside;
+            stands = inside;
           };
         }
 
@@ -189,7 +182,7 @@ module _ {S Z H : Type 0} (plan : Outline) (telling : Telling S) (flat : Z → F
         let b = below_is plan telling flat image pin is_layer f i function top is at d.from
         deploys.below old sized r layers deploys.below_is (deploy_high old.sizes old.state
         d.context d.from i old.sizes.root (stood _ _ new.state deploys.legal).0) in record {
-          model = below_model plan telling flat image f function top deploys.below d at b.of_plan
+          stands = below_stands plan telling flat image f function top deploys.below d at b.of_plan
               b.number b.start deploys.hart_is
               (ap (λ (s : Spaced). s.flat) deploys.space_is);
           on_way = b.on_way;

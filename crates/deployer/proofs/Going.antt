@@ -6,7 +6,6 @@ use Rattle.std.proofs.lemmas.List.{append_assoc, append-nil}
 use Rattle.book_model.specs.Shared.{Shared}
 use Rattle.book_model.specs.Steps.{Appends, backs, ended}
 use Rattle.deployer.specs.Closing.{MayWant}
-use Rattle.deployer.specs.Steps.{WentBy}
 use Rattle.journal_laws.proofs.Folding.{joined_after}
 use Rattle.journal_model.specs.Extents.{Extents}
 use Rattle.journal_model.specs.State.{State}
@@ -15,6 +14,7 @@ use Rattle.journal_model.specs.declared.event.Event.{Event}
 use Rattle.journal_model.specs.declared.event.Event.TheVariants.{Want, End}
 use Rattle.journal_model.proofs.Folds.{none_first}
 use Rattle.service_laws.proofs.Ending.{wanted_ends}
+use Rattle.service_model.specs.Going.{WentBy}
 use Rattle.book_model.proofs.Results.{one_all}
 
 module _ {T E : Type 0} where

@@ -9,8 +9,8 @@ use Rattle.book_model.specs.Shared.{Shared}
 use Rattle.book_model.specs.Kept.{IsLayerOf, IsWaiting}
 use Rattle.book_model.specs.Steps.{Keeps, Parks, handed_layer, is_kept, kept_list, last_kept}
 use Rattle.book_model.specs.Steps.{built_events, parked_events, idle_list, last_idle, used_before}
-use Rattle.deployer.specs.Steps.{WentBy}
 use Rattle.deployer.proofs.Going.{went_so}
+use Rattle.service_model.specs.Going.{WentBy}
 use Rattle.slot_lists.specs.Lists.{Waiting}
 use Rattle.space_api.specs.Holding.{Pin, Stocked}
 use Rattle.space_api.specs.Told.{KeptLayer, ParkedContext}

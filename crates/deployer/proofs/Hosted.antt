@@ -9,7 +9,6 @@ use Rattle.book_model.specs.Steps.{FindsNone, Takes}
 use Rattle.context_uc.specs.Views.{ContextView, parked_of}
 use Rattle.deployer.specs.Grounds.{IsContextOf}
 use Rattle.deployer.specs.Hosting.{Telling, Hosts, TakesHost}
-use Rattle.deployer.specs.Steps.{WentBy}
 use Rattle.deployer.proofs.Going.{went_one}
 use Rattle.journal_model.specs.Legal.{after_all, at_first, first_for, request_function}
 use Rattle.journal_model.specs.Reads.{served}
@@ -20,6 +19,7 @@ use Rattle.journal_model.specs.declared.state.Duty.TheVariants.{Serves}
 use Rattle.machine_model.specs.declared.packet.Memory.{Memory}
 use Rattle.plan_model.specs.Outline.{Outline}
 use Rattle.service_laws.proofs.Giving.{taken_serves, taken_function, taken_served}
+use Rattle.service_model.specs.Going.{WentBy}
 use Rattle.space_api.specs.Told.{ParkedContext}
 use Rattle.space_api.specs.declared.given.Given.{Given}
 

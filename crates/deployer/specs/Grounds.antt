@@ -1,29 +1,15 @@
 -- What the book of a plan holds: contexts, layers and images of that plan.
 use Rattle.std.specs.Prelude.{◌≡◌, ℕ, ◌<◌, true, Option, Some, IfSome, IsSomeAnd, length}
 use Rattle.std.specs.Prelude.{slice_get}
+use Rattle.context_runs.specs.OfLayers.{IsTop}
 use Rattle.context_uc.specs.Views.{ContextView, LayerView, IsKept}
 use Rattle.journal_model.specs.Extents.{Extents}
-use Rattle.journal_model.specs.State.{contains}
 use Rattle.layer_model.specs.Replies.{IsFunction}
 use Rattle.plan_model.specs.Outline.{Outline}
 use Rattle.plan_model.specs.Stacks.{stack}
 use Rattle.plan_model.specs.declared.function.PlanFunction.{PlanFunction}
 use Rattle.plan_model.specs.declared.layer.PlanLayer.{PlanLayer}
 use Rattle.space_api.specs.Flat.{Flat}
-
--- a context stands at its function's layer
-pub record IsAtTop (plan : Outline) (number : ℕ) (place : Option ℕ) : Type 0 where
-  pub function : PlanFunction
-  pub layer : PlanLayer
-  pub function_is : IsFunction plan number function layer
-  pub place_is : place ≡ Some function.layer
-
--- a context stands on its way to its function's layer: at the image, or at a layer of the stack
-pub record IsOnWay (plan : Outline) (number : ℕ) (place : Option ℕ) : Type 0 where
-  pub function : PlanFunction
-  pub layer : PlanLayer
-  pub function_is : IsFunction plan number function layer
-  pub place_is : IfSome place (λ k. contains k (stack plan.layers function.layer) ≡ true)
 
 -- a context of the plan between its runs, which may serve once more at least
 pub record IsUsable {S : Type 0} (plan : Outline) (c : ContextView S) : Type 0 where
@@ -35,7 +21,7 @@ pub record IsUsable {S : Type 0} (plan : Outline) (c : ContextView S) : Type 0 w
 -- and it stands at its function's layer
 pub record IsContextOf {S : Type 0} (plan : Outline) (c : ContextView S) : Type 0 where
   pub is_usable : IsUsable plan c
-  pub at_top : IsAtTop plan c.function c.layer
+  pub at_top : IsTop plan c.function c.layer
 
 -- a layer has the start of its number
 abbrev pub HasStart : Outline → (number : Option ℕ) → (start : ℕ) → Type 0

@@ -3,9 +3,10 @@ use Rattle.std.specs.Prelude.{◌≡◌, ◌⊎◌, ℕ, ◌∷◌, [], Bool, fa
 use Rattle.book_core.specs.declared.deploying.Deployed.{Deployed}
 use Rattle.book_model.specs.Kept.{IsNoted, givens}
 use Rattle.book_model.specs.Shared.{Shared}
-use Rattle.context_uc.specs.Views.{ContextView, IsModel, parked_of, silent}
-use Rattle.deployer.specs.Grounds.{IsAtTop, IsOnWay, IsUsable}
-use Rattle.deployer.specs.Steps.{WentBy}
+use Rattle.context_runs.specs.OfLayers.{IsOnStack, IsTop}
+use Rattle.context_runs.specs.Standing.{StandsFor}
+use Rattle.context_uc.specs.Views.{ContextView, parked_of, silent}
+use Rattle.deployer.specs.Grounds.{IsUsable}
 use Rattle.journal_model.specs.Legal.{first_for, request_function}
 use Rattle.journal_model.specs.Reads.{served}
 use Rattle.journal_model.specs.declared.event.Event.TheVariants.{Take}
@@ -13,6 +14,7 @@ use Rattle.journal_model.specs.declared.state.ContextState.{ContextState}
 use Rattle.journal_model.specs.declared.state.Duty.TheVariants.{Serves}
 use Rattle.plan_model.specs.Outline.{Outline}
 use Rattle.service_laws.specs.Serving.{IsServing}
+use Rattle.service_model.specs.Going.{WentBy}
 use Rattle.space_api.specs.Flat.{Flat, machine_of}
 use Rattle.space_api.specs.Holding.{Pin}
 
@@ -28,15 +30,15 @@ pub record Telling (S : Type 0) : Type 0 where
 -- has served nothing.
 pub record IsInService {S : Type 0} (plan : Outline) (c : ContextView S) : Type 0 where
   pub is_usable : IsUsable plan c
-  pub stands : IsAtTop plan c.function c.layer
-      ⊎ ((c.served ≡ []) × IsOnWay plan c.function c.layer)
+  pub stands : IsTop plan c.function c.layer
+      ⊎ ((c.served ≡ []) × IsOnStack plan c.function c.layer)
 
 -- The space is to be a context's of the function, which stands where it was deployed from and has
 -- served nothing.
 pub record IsFresh {S : Type 0} (plan : Outline) (telling : Telling S) (function : ℕ)
     (d : Deployed S) : Type 0 where
-  pub model : IsModel plan function d.from [] (machine_of d.hart (telling.flat d.space) silent)
-  pub on_way : IsOnWay plan function d.from
+  pub stands : StandsFor plan function d.from (machine_of d.hart (telling.flat d.space) silent)
+  pub on_way : IsOnStack plan function d.from
   pub unfinished : telling.finished d.space ≡ false
   pub loose : telling.pin d.space ≡ None
 

@@ -2,4 +2,3 @@ pub mod Closing
 pub mod Grounds
 pub mod Hosting
 pub mod Layering
-pub mod Steps

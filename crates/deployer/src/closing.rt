@@ -7,7 +7,7 @@ ghost use Rattle.context_uc.specs.Views.{parked_of};
 ghost use Rattle.journal_model.specs.Legal.{after_all, is_open};
 ghost use Rattle.deployer.specs.Closing.{MayWant};
 ghost use Rattle.deployer.specs.Grounds.{AreGrounds, IsContextOf};
-ghost use Rattle.deployer.specs.Steps.{WentBy, wanted_events};
+ghost use Rattle.service_model.specs.Going.{WentBy, wanted_events};
 
 use crate::returning::give;
 use book_core::{Book, Grounds};

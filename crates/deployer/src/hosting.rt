@@ -5,7 +5,7 @@ ghost use Rattle.journal_model.specs.Legal.{first_for, is_waiting, request_funct
 ghost use Rattle.journal_model.specs.declared.event.Event.TheVariants.{Deploy};
 ghost use Rattle.deployer.specs.Grounds.{AreGrounds, IsSizedBy};
 ghost use Rattle.deployer.specs.Hosting.{IsDrawn, IsFresh, TakesHost};
-ghost use Rattle.deployer.specs.Steps.{WentBy};
+ghost use Rattle.service_model.specs.Going.{WentBy};
 
 use book_core::{Book, Deployed, Grounds};
 use context_uc::{Context, Layer};

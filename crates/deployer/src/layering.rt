@@ -4,7 +4,7 @@ ghost use Rattle.std.specs.Prelude.{◌≡◌, true, false, OnOk, OnErr, IfSome}
 ghost use Rattle.book_model.specs.Steps.{built_events, is_kept, last_kept};
 ghost use Rattle.space_api.specs.Stores.{frozen_of};
 ghost use Rattle.deployer.specs.Layering.{IsAbove};
-ghost use Rattle.deployer.specs.Steps.{WentBy};
+ghost use Rattle.service_model.specs.Going.{WentBy};
 
 use crate::returning::give;
 use book_core::{Book, Grounds};

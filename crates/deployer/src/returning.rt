@@ -1,7 +1,7 @@
 //! What nothing reaches any more comes back to a book.
 
 ghost use Rattle.std.specs.Prelude.{◌≡◌, true, false, [], OnOk, OnErr};
-ghost use Rattle.deployer.specs.Steps.{WentBy};
+ghost use Rattle.service_model.specs.Going.{WentBy};
 
 use book_core::{Book, Grounds};
 use machine_model::Memory;
