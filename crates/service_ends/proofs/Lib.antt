@@ -1,0 +1,4 @@
+pub mod Closes
+pub mod Due
+pub mod Given
+pub mod Parkable
