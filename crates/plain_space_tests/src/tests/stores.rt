@@ -42,7 +42,7 @@ pub fn deployed<T: Store>(alloc: Global, store: &T, shelf: &mut T::Shelf) -> Res
 
 /// What a capture gives: the frozen memory, the space that goes on, and how many pages were
 /// written.
-fn captured<T: Store>(
+pub fn captured<T: Store>(
     alloc: Global,
     store: &T,
     space: T::Space,
@@ -64,7 +64,7 @@ fn captured<T: Store>(
 }
 
 /// A space above frozen memory, which may run.
-fn above<T: Store>(
+pub fn above<T: Store>(
     alloc: Global,
     store: &T,
     shelf: &mut T::Shelf,
