@@ -53,8 +53,8 @@ fn push_lines<K: Sink, L: Line>(
     }
 }
 
-/// Sends the lines of the batch, printed into bytes that have room for each: the answers, the events
-/// and the totals.
+/// Sends the lines of the batch, printed into bytes that have room for each: the answers, the
+/// events and the totals.
 fn push_outcome<K: Sink>(
     alloc: Global,
     sink: &mut K,

@@ -1,0 +1,4 @@
+pub mod Drawn
+pub mod Reused
+pub mod Unchanged
+pub mod Waiting
