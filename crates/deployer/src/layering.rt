@@ -8,15 +8,15 @@ ghost use Rattle.service_model.specs.Going.{WentBy};
 
 use crate::returning::give;
 use book_core::{Book, Grounds};
-use context_uc::{Layer, release};
+use context_uc::{Context, Layer, release};
 use machine_model::Memory;
-use space_api::{Parked, Store};
+use space_api::Store;
 
 /// The layer with so many pages written is kept, and what goes for it, or itself where its number
 /// is kept already, is released. The only error is want of memory, and stops the book.
-pub fn keep_layer<'a, T: Store, C: Parked, G: Grounds<C, Layer<'a, T::Frozen>>>(
+pub fn keep_layer<'a, T: Store, G: Grounds<Context<'a, T::Space>, Layer<'a, T::Frozen>>>(
     store: &T,
-    book: &mut Book<C, Layer<'a, T::Frozen>, T::Shelf, G>,
+    book: &mut Book<Context<'a, T::Space>, Layer<'a, T::Frozen>, T::Shelf, G>,
     c: u32,
     layer: Layer<'a, T::Frozen>,
     pages: u32,
