@@ -2,7 +2,7 @@
 use Rattle.std.specs.Prelude.{◌≡◌, ℕ, true, Some}
 use Rattle.book_core.specs.declared.deploying.Deployed.{Deployed as NewContext}
 use Rattle.book_model.specs.Shared.{Shared}
-use Rattle.context_runs.specs.OfLayers.{IsLayerUnderWay}
+use Rattle.context_runs.specs.OfLayers.{IsLayerUnderWay, IsOnStack}
 use Rattle.context_runs.specs.OfRequests.{IsRequestUnderWay}
 use Rattle.context_runs.specs.declared.layer_run.LayerRun.{LayerRun}
 use Rattle.context_runs.specs.declared.request_run.RequestRun.{RequestRun}
@@ -59,10 +59,11 @@ module _ {S L H : Type 0} (plan : Outline) (telling : Telling S) where
     pub drawn : IsDrawn i function d book
 
 module _ {S L H : Type 0} (plan : Outline) (telling : Telling S) (ports : Exchange) where
-  -- it is in the run of the layer above it
+  -- it is in the run of the layer above it, which is on its function's stack
   pub record IsInLayer (i : ℕ) (c : ContextView S) (run : LayerRun)
       (book : Shared (ContextView S) L H) : Type 0 where
     pub hosts : HostsInRun plan telling i c book
+    pub on_way : IsOnStack c.plan c.function (Some run.number)
     pub under_way : IsLayerUnderWay c (telling.flat c.space) ports run
 
   -- it is in the run of the request, with what the request was given

@@ -4,4 +4,4 @@
 pub const VERSION: &str = "0.1.0";
 
 /// What `scripts/source_digest.sh` prints of the sources. `scripts/version.sh` writes it.
-pub const SOURCES: &str = "1044b67ce35a69d332e6318a209bc3dc0b9cee4f72f9b334f7b35b1ec16b4527";
+pub const SOURCES: &str = "f2fa4992e95235f5f04f58186feb3851c555f59e2fd22cdecd9269ad91899e65";

@@ -1,0 +1,4 @@
+pub mod Kept
+pub mod Missing
+pub mod Reaching
+pub mod Standing
