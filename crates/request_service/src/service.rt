@@ -30,7 +30,10 @@ pub struct Origin {
 #[derive(Drop)]
 pub enum Work<C, S> {
     /// Its space was deployed, and it is to begin there, for the function.
-    Deployed { function: u16, deployed: Deployed<S> },
+    Deployed {
+        function: u16,
+        deployed: Deployed<S>,
+    },
     /// It stands between runs.
     Between(C),
     /// It is in the run of the layer above it.

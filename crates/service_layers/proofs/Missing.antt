@@ -60,7 +60,7 @@ module _ {S L H : Type 0} (telling : Telling S) (o : Origin) (c : ContextView S)
       let own = own_there book.started book.state o.i keys hosts.serving.work.open_one in
       let reply = replies own.0 in
       let is_due = due c.plan telling o (record c { still = true }) book reached known hosts r own.0
-          (reply_is_shown c own.0 (NoLayer k s) r reply) own.1 in record {
+      (reply_is_shown c own.0 (NoLayer k s) r reply) own.1 in record {
         events = ended a.i a.context (Some a.used);
         closes = subst (λ n. Closes c.plan n a (ended a.i a.context (Some a.used)) book new)
             (ap (λ x. x.i) e) (closes c.plan (subst (λ x. IsDue c.plan x book) (sym e) is_due)

@@ -105,8 +105,11 @@ module _ {S L H : Type 0} (plan : Outline) (telling : Telling S) (o : Origin) (c
         uses_are = hosts.in_service.is_usable.uses_are;
         usable = hosts.in_service.is_usable.usable;
       };
-      stands = inr (unused, subst (λ p. IsOnStack p c.function (Some k))
-          hosts.in_service.is_usable.plan_is on_way);
+      stands = inr (
+        unused,
+        subst (λ p. IsOnStack p c.function (Some k))
+            hosts.in_service.is_usable.plan_is on_way,
+      );
     };
     state = record hosts.state { layer = Some k };
     serving = built_serves_on old.sizes old.state c.id k pages twice last new.state o.i

@@ -113,9 +113,7 @@ pub fn end_layer<'a, T: Store, G: Grounds<Context<'a, T::Space>, Layer<'a, T::Fr
                 context,
                 run,
             };
-            Ok(Turned::Answered(miss_layer(
-                alloc, store, book, at, why,
-            )?))
+            Ok(Turned::Answered(miss_layer(alloc, store, book, at, why)?))
         }
         LayerEnd::Memory(context) => {
             let answer = lose_context(alloc, store, book, origin, context)?;

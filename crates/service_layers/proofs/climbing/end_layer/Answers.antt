@@ -16,49 +16,111 @@ use Rattle.service_layers.proofs.climbing.end_layer.Goals as goal
 pub keep_layer-requires : goal.keep_layer-requires
 keep_layer-requires g c κs = (
   c.type_bounds.send-T-Space,
-  (c.type_bounds.send-T-Frozen, (c.type_bounds.send-T-Shelf, (c.type_bounds.send-T-Spares,
-      ((refl, tt), (c.requires.copied, (c.requires.sizes.root,
-      (c.requires.grounds.any_layer c.in-Reached.layer (of_plan c.args.at.context.plan _
-      c.args.at.run.number c.args.at.context c.in-Reached.context c.in-Reached.layer
-      c.in-Reached.ensures.1.0 refl c.requires.stopped.is_above.above.layer
-      c.requires.stopped.is_above.above.layer_is c.is_the_model.ensures),
-      subst (λ n. IsAbove (λ z. frozen_of (g.T.Frozen.FrozenMemory.flat z)
-      (g.T.Frozen.FrozenMemory.image z)) g.T.Frozen.Held.pin n c.in-Reached.layer
-      c.args.book.now) (sym c.id-c.ensures)
-      (may_keep_taken _ c.args.at.origin c.args.at.context c.args.at.run.number c.args.book.now
-      c.requires.hosts c.requires.stopped.is_above.above _ _ _ _ _ _ _ c.in-Reached.context
-      c.in-Reached.layer c.requires.sizes c.in-Reached.ensures.1.0 c.in-Reached.ensures.1.2
-      refl)))))))),
+  (
+    c.type_bounds.send-T-Frozen,
+    (
+      c.type_bounds.send-T-Shelf,
+      (
+        c.type_bounds.send-T-Spares,
+        (
+          (refl, tt),
+          (
+            c.requires.copied,
+            (
+              c.requires.sizes.root,
+              (
+                c.requires.grounds.any_layer c.in-Reached.layer (of_plan c.args.at.context.plan _
+                    c.args.at.run.number c.args.at.context c.in-Reached.context c.in-Reached.layer
+                    c.in-Reached.ensures.1.0 refl c.requires.stopped.is_above.above.layer
+                    c.requires.stopped.is_above.above.layer_is c.is_the_model.ensures),
+                subst (λ n. IsAbove (λ z. frozen_of (g.T.Frozen.FrozenMemory.flat z)
+                    (g.T.Frozen.FrozenMemory.image z)) g.T.Frozen.Held.pin n c.in-Reached.layer
+                    c.args.book.now) (sym c.id-c.ensures)
+                    (may_keep_taken _ c.args.at.origin c.args.at.context c.args.at.run.number
+                    c.args.book.now
+                    c.requires.hosts c.requires.stopped.is_above.above _ _ _ _ _ _ _
+                    c.in-Reached.context
+                    c.in-Reached.layer c.requires.sizes c.in-Reached.ensures.1.0
+                    c.in-Reached.ensures.1.2
+                    refl),
+              ),
+            ),
+          ),
+        ),
+      ),
+    ),
+  ),
 )
 
 pub miss_layer-requires : goal.miss_layer-requires
 miss_layer-requires g c κs = (
   c.type_bounds.send-T-Space,
-  (c.type_bounds.send-T-Frozen, (c.type_bounds.send-T-Shelf, (c.type_bounds.send-T-Spares,
-      ((refl, tt), (c.requires.copied, (c.requires.sizes.root, (c.requires.known,
-      (subst (λ v. HostsInRun v.plan (record {
-        flat = g.T.Space.Space.flat;
-        spares = g.T.Space.Space.spares;
-        finished = g.T.Space.Space.finished;
-        pin = g.T.Space.Held.pin;
-      }) c.args.at.origin.i v c.args.book.now)
-      (sym c.in-Missed.ensures.1) c.requires.hosts,
-      (subst (λ v. StandsAbove v.plan v.function v.layer c.args.at.run.number)
-      (sym c.in-Missed.ensures.1) c.requires.stopped.is_above.above,
-      subst (λ v. IsNoLayer v.plan c.args.at.run.number (stop_of_why c.in-Missed.why))
-      (sym c.in-Missed.ensures.1) c.in-Missed.ensures.2))))))))),
+  (
+    c.type_bounds.send-T-Frozen,
+    (
+      c.type_bounds.send-T-Shelf,
+      (
+        c.type_bounds.send-T-Spares,
+        (
+          (refl, tt),
+          (
+            c.requires.copied,
+            (
+              c.requires.sizes.root,
+              (
+                c.requires.known,
+                (
+                  subst (λ v. HostsInRun v.plan (record {
+                    flat = g.T.Space.Space.flat;
+                    spares = g.T.Space.Space.spares;
+                    finished = g.T.Space.Space.finished;
+                    pin = g.T.Space.Held.pin;
+                  }) c.args.at.origin.i v c.args.book.now)
+                      (sym c.in-Missed.ensures.1) c.requires.hosts,
+                  (
+                    subst (λ v. StandsAbove v.plan v.function v.layer c.args.at.run.number)
+                        (sym c.in-Missed.ensures.1) c.requires.stopped.is_above.above,
+                    subst (λ v. IsNoLayer v.plan c.args.at.run.number (stop_of_why c.in-Missed.why))
+                        (sym c.in-Missed.ensures.1) c.in-Missed.ensures.2,
+                  ),
+                ),
+              ),
+            ),
+          ),
+        ),
+      ),
+    ),
+  ),
 )
 
 pub lose_context-requires : goal.lose_context-requires
 lose_context-requires g c κs = (
   c.type_bounds.send-T-Space,
-  (c.type_bounds.send-T-Frozen, (c.type_bounds.send-T-Shelf, (c.type_bounds.send-T-Spares,
-      ((refl, tt), (c.requires.copied, (c.requires.sizes.root,
-      (held_same _ c.args.at.origin c.args.at.context c.args.at.run.number c.args.book.now
-      c.requires.hosts c.requires.stopped.is_above.above c.in-Memory.context
-      c.in-Memory.ensures.1.1.context_is c.requires.known,
-      ap (λ (h : Holding). h.pin) c.in-Memory.ensures.1.1.space_is.holding
-      ∙ c.requires.hosts.loose))))))),
+  (
+    c.type_bounds.send-T-Frozen,
+    (
+      c.type_bounds.send-T-Shelf,
+      (
+        c.type_bounds.send-T-Spares,
+        (
+          (refl, tt),
+          (
+            c.requires.copied,
+            (
+              c.requires.sizes.root,
+              (
+                held_same _ c.args.at.origin c.args.at.context c.args.at.run.number c.args.book.now
+                    c.requires.hosts c.requires.stopped.is_above.above c.in-Memory.context
+                    c.in-Memory.ensures.1.1.context_is c.requires.known,
+                ap (λ (h : Holding). h.pin) c.in-Memory.ensures.1.1.space_is.holding
+                    ∙ c.requires.hosts.loose,
+              ),
+            ),
+          ),
+        ),
+      ),
+    ),
+  ),
 )
 
 pub returns-in_ok-keep_layer-in-Reached-clause-climbs :
