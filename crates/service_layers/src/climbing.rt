@@ -1,11 +1,11 @@
 //! What comes of the end of a layer's run.
 
-ghost use Rattle.std.specs.Prelude.{◌≡◌, false, true, Some, IfOk, OnErr};
-ghost use Rattle.context_runs.specs.OfLayers.{HasStopped, IsOnStack, StandsAbove, stop_of_why};
-ghost use Rattle.deployer.specs.Grounds.{AreGrounds, IsSizedBy};
+ghost use Rattle.std.specs.Prelude.{◌≡◌, false, true, IfOk, OnErr};
+ghost use Rattle.context_runs.specs.OfLayers.{StandsAbove, stop_of_why};
 ghost use Rattle.layer_model.specs.Layers.{IsNoLayer};
 ghost use Rattle.request_service.specs.Climbing.{ClimbsTo, IsLost};
 ghost use Rattle.request_service.specs.UnderWay.{HostsInRun, IsKnownAs};
+ghost use Rattle.service_layers.specs.Stopping.{MayEnd};
 
 use book_core::{Book, Grounds};
 use context_runs::{LayerEnd, LayerRun, after_layer, missed_reply};
@@ -67,17 +67,12 @@ pub fn end_layer<'a, T: Store, G: Grounds<Context<'a, T::Space>, Layer<'a, T::Fr
     stop: Stop,
 ) -> Result<Turned<Context<'a, T::Space>, T::Space>, Memory>
     requires copied { T.Space.takes_frames ≡ false }
-    requires sizes { IsSizedBy at.context.plan book.old.sizes }
-    requires grounds { AreGrounds at.context.plan T.Frozen.flat G.is_context G.is_layer }
-    requires known { IsKnownAs at.origin book.old.state }
-    requires hosts { HostsInRun at.context.plan (record {
+    requires may { MayEnd (record {
       flat = T.Space.flat;
       spares = T.Space.spares;
       finished = T.Space.finished;
       pin = T.Space.pin;
-    }) at.origin.i at.context book.old }
-    requires on_way { IsOnStack at.context.plan at.context.function (Some at.run.number) }
-    requires stopped { HasStopped at.context (T.Space.flat at.context.space) at.run stop }
+    }) T.Frozen.flat G.is_context G.is_layer at stop book.old }
     ensures climbs { IfOk result (λ turned. ClimbsTo at.entry.context.plan (record {
       flat = T.Space.flat;
       spares = T.Space.spares;

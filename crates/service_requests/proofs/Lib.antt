@@ -1,0 +1,3 @@
+pub mod Answering
+pub mod Idling
+pub mod Counted
