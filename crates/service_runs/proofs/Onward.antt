@@ -1,6 +1,7 @@
 -- A context that serves a request sets out on its next run.
 use Rattle.std.proofs.Common.{◌≡◌, ℕ, ◌==◌, ◌||◌, ◌++◌, ◌∷◌, [], Bool, true}
-use Rattle.std.proofs.Common.{false, List, Option, None, Some, IfSome, IfOk, IsSome, Result, refl, sym, ◌∙◌, ap}
+use Rattle.std.proofs.Common.{false, List, Option, None, Some, IfSome, IfOk, IsSome, Result, refl}
+use Rattle.std.proofs.Common.{sym, ◌∙◌, ap}
 use Rattle.std.proofs.Common.{subst, inl, inr, option_map, add-one, arith}
 use Rattle.std.proofs.lemmas.Bool.Decides.{nat_tests}
 use Rattle.std.proofs.lemmas.Option.{same_Some}

@@ -1,5 +1,5 @@
-//! A context that is to begin, or is between runs, sets out on its next run: that of the layer above
-//! it, or that of its request.
+//! A context that is to begin, or is between runs, sets out on its next run: that of the layer
+//! above it, or that of its request.
 #![tactic(auto)]
 
 mod setting_out;

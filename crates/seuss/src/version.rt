@@ -4,4 +4,4 @@
 pub const VERSION: &str = "0.1.0";
 
 /// What `scripts/source_digest.sh` prints of the sources. `scripts/version.sh` writes it.
-pub const SOURCES: &str = "5c486472abbf3cf81dee3b8a6460581efae5e5d664071e713827d232fd18cf89";
+pub const SOURCES: &str = "8af4f05e1baff986c958e2cb57bd396dc8b9993a34a75c113d249b4a4b6755cb";

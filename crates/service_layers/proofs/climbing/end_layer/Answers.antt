@@ -29,7 +29,8 @@ keep_layer-requires g c κs = (
             (
               c.requires.may.sizes.root,
               (
-                c.requires.may.grounds.any_layer c.in-Reached.layer (of_plan c.args.at.context.plan _
+                c.requires.may.grounds.any_layer c.in-Reached.layer
+                    (of_plan c.args.at.context.plan _
                     c.args.at.run.number c.args.at.context c.in-Reached.context c.in-Reached.layer
                     c.in-Reached.ensures.1.0 refl c.requires.may.stopped.is_above.above.layer
                     c.requires.may.stopped.is_above.above.layer_is c.is_the_model.ensures),

@@ -94,7 +94,8 @@ returns-in-Ok-clause-answered g c = ok_both c.close_request.result _ _ _
       finished = g.T.Space.Space.finished;
       pin = g.T.Space.Held.pin;
     }) c.args.at.origin c.args.at.context c.args.book.now
-    c.is_sound.ensures.held.log.reached c.requires.may.known c.requires.may.hosts c.args.at.run.given
+    c.is_sound.ensures.held.log.reached c.requires.may.known c.requires.may.hosts
+    c.args.at.run.given
     c.requires.may.own c.in-Ok.reply c.args.stop c.in-Ok.ensures.reply c.after_request.new.context
     c.in-Ok.ensures.served c.answer_with-answer.result c.answer_with-answer.ensures
     c.args.at.run.done (steps_are c.args.at.context _ c.args.ports.now c.args.at.run c.args.stop

@@ -1,0 +1,5 @@
+mod Apart
+mod Openable
+mod Shelves
+mod Slots
+mod Stacked

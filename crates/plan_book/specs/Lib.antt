@@ -1,0 +1,4 @@
+pub mod OfPlan
+pub mod Opened
+pub mod Sized
+pub mod Stakes
