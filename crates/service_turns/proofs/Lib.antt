@@ -1,0 +1,4 @@
+pub mod Climbed
+pub mod Ended
+pub mod Out
+pub mod Running
